@@ -1,0 +1,5 @@
+pub mod Choice
+pub mod Refusal
+pub mod Values
+pub mod Check
+pub mod Bounds

@@ -1,0 +1,29 @@
+-- Document 01, "Where each check stands": the refusals by number.
+use Prim.Native.Nat.{ℕ}
+use Rattle.site.specs.declared.Rule.{Rule}
+use Rattle.site.specs.declared.Rule.the-variants.{NoBytes, OuterCut, OuterTag, TooMany, InnerCut, InnerTag, BadLength, OutOfRange, NotRising, SharesNotWhole, BufferShort}
+use Rattle.site.specs.declared.Checked.{Checked}
+use Rattle.site.specs.declared.Checked.the-variants.{Passed, Broken}
+
+unfoldable pub ruleNumber : Rule → ℕ
+ruleNumber NoBytes = 1
+ruleNumber OuterCut = 2
+ruleNumber OuterTag = 3
+ruleNumber TooMany = 4
+ruleNumber InnerCut = 5
+ruleNumber InnerTag = 6
+ruleNumber BadLength = 7
+ruleNumber OutOfRange = 8
+ruleNumber NotRising = 9
+ruleNumber SharesNotWhole = 10
+ruleNumber BufferShort = 11
+
+-- the number of the refusal, and 0 where there is none
+unfoldable pub checkedNumber : Checked → ℕ
+checkedNumber Passed = 0
+checkedNumber (Broken r) = ruleNumber r
+
+-- the first of two checks that is broken
+unfoldable pub andThen : Checked → Checked → Checked
+andThen Passed c = c
+andThen (Broken r) c = Broken r

@@ -1,0 +1,94 @@
+-- Document 01, "The site's values": what rules 7 to 10 ask of each field, by its tag.
+use Prim.Native.Nat.{ℕ, _+_, _*_, _%_}
+use mathlib.Core.Bool.{Bool, true, false, _&&_, _||_}
+use mathlib.Core.List.{List, [], _∷_}
+use lib.Dec.{leb, eqb}
+use lib.ListN.{getD, take}
+use Rattle.site.specs.Choice.{pick}
+use Rattle.site.specs.declared.Site.{Site}
+use Rattle.site.specs.declared.Entry.{Entry}
+use Rattle.site.specs.declared.Rule.the-variants.{BadLength, OutOfRange, NotRising, SharesNotWhole}
+use Rattle.site.specs.declared.Checked.{Checked}
+use Rattle.site.specs.declared.Checked.the-variants.{Passed, Broken}
+
+-- the tags 01 to 0F
+abbrev pub due : List ℕ
+due = 1 ∷ 2 ∷ 3 ∷ 4 ∷ 5 ∷ 6 ∷ 7 ∷ 8 ∷ 9 ∷ 10 ∷ 11 ∷ 12 ∷ 13 ∷ 14 ∷ 15 ∷ []
+
+-- A field holds items: the bytes of the name, the entries of the stand, else one value. By tag from 0: the bytes of an item, and
+-- how many items there may be.
+abbrev pub itemWidths : List ℕ
+itemWidths = 1 ∷ 1 ∷ 1 ∷ 2 ∷ 1 ∷ 1 ∷ 2 ∷ 4 ∷ 2 ∷ 1 ∷ 2 ∷ 2 ∷ 2 ∷ 2 ∷ 2 ∷ 4 ∷ []
+
+abbrev pub mostItems : List ℕ
+mostItems = 0 ∷ 8 ∷ 1 ∷ 1 ∷ 1 ∷ 1 ∷ 1 ∷ 4 ∷ 1 ∷ 1 ∷ 1 ∷ 1 ∷ 1 ∷ 1 ∷ 1 ∷ 1 ∷ []
+
+-- rule 7 for n bytes: a whole number of items, at least one
+unfoldable pub lengthPermitted : ℕ → ℕ → Bool
+lengthPermitted t n =
+    pick (leb 16 t) false (leb 1 n && leb n (getD itemWidths t 1 * getD mostItems t 0) && eqb (n % getD itemWidths t 1) 0)
+
+-- rule 7 for a site value
+unfoldable pub itemCount : ℕ → Site → ℕ
+itemCount t s = pick (eqb t 1) (s .«name_len») (pick (eqb t 7) (s .entries) 1)
+
+unfoldable pub countRule : ℕ → Site → Checked
+countRule t s = pick (leb 1 (itemCount t s) && leb (itemCount t s) (getD mostItems t 0)) Passed (Broken BadLength)
+
+-- A–Z, 0–9, hyphen
+unfoldable pub nameByte : ℕ → Bool
+nameByte b = leb 65 b && leb b 90 || leb 48 b && leb b 57 || eqb b 45
+
+unfoldable pub allOf {ℓ} : {A : Type ℓ} → (A → Bool) → List A → Bool
+allOf f [] = true
+allOf f (x ∷ xs) = f x && allOf f xs
+
+-- rule 8
+abbrev pub ranged : Bool → Checked
+ranged b = pick b Passed (Broken OutOfRange)
+
+unfoldable pub between : ℕ → ℕ → ℕ → Checked
+between lo hi x = ranged (leb lo x && leb x hi)
+
+unfoldable pub entryRanged : Entry → Bool
+entryRanged e = leb (e .species) 8 && leb 1 (e .share) && leb (e .share) 100 && leb (e .«yield_kg») 20000
+
+-- species rise strictly, the first at least lo
+unfoldable pub risingFrom : ℕ → List Entry → Bool
+risingFrom lo [] = true
+risingFrom lo (e ∷ es) = leb lo (e .species) && risingFrom (e .species + 1) es
+
+unfoldable pub sharesOf : List Entry → ℕ
+sharesOf [] = 0
+sharesOf (e ∷ es) = e .share + sharesOf es
+
+-- rule 8 over all entries, then 9, then 10
+unfoldable pub standRule : List Entry → Checked
+standRule es =
+    pick (allOf entryRanged es)
+    (pick (risingFrom 0 es)
+    (pick (eqb (sharesOf es) 100) Passed (Broken SharesNotWhole))
+    (Broken NotRising))
+    (Broken OutOfRange)
+
+-- rules 8, 9 and 10 of the field with tag t
+unfoldable pub valueRule : ℕ → Site → Checked
+valueRule t s =
+    getD
+    (Passed
+    ∷ ranged (allOf nameByte (take (s .«name_len») (s .name)))
+    ∷ between 0 4 (s .parent)
+    ∷ ranged (leb ((s .clay) + s .sand) 100)
+    ∷ between 1 200 (s .depth)
+    ∷ between 0 5 (s .drainage)
+    ∷ between 1 3000 (s .percolation)
+    ∷ standRule (take (s .entries) (s .stand))
+    ∷ between 0 500 (s .immobilisation)
+    ∷ between 70 85 (s .available)
+    ∷ between 0 5000 (s .«base_deposition»)
+    ∷ between 100 20000 (s .ratio)
+    ∷ between 1 10000 (s .gibbsite)
+    ∷ between 1 5000 (s .ceiling)
+    ∷ between 1 1000 (s .leachate)
+    ∷ [])
+    t Passed

@@ -1,0 +1,44 @@
+/*
+ * Forest site instrument: critical loads, exceedances and verdict.
+ *
+ * A result is one number. Below 2^32 it is a count: of bytes for forest_list, forest_report and forest_rewrite, of numbers
+ * for forest_loads and forest_judge, and 0 for forest_check. From 2^32 on it is a refusal: rule number * 2^32 + offset.
+ * A refusal alters no byte of the lent buffer; a success alters the first `count` elements alone.
+ *
+ * A site value is 50 bytes, numbers of two bytes high byte first:
+ *
+ *    0  name, 8 bytes            8  length of the name       9  parent material
+ *   10  clay                    11  sand                    12  root depth
+ *   13  drainage                14  percolation, 2          16  stand, 4 entries of 4: species, share, yield (2)
+ *   32  count of entries        33  immobilisation, 2       35  available share of weathering
+ *   36  base cation deposition, 2                           38  critical Bc/Al ratio, 2
+ *   40  gibbsite constant, 2    42  hydrogen ceiling, 2     44  acceptable nitrogen in leachate, 2
+ *   46  deposition S, 2         48  deposition N, 2
+ *
+ * Every content of the 50 bytes is a site value, a bad one is refused by rules 7 to 10; another length than 50 is refused by 7.
+ */
+#ifndef FOREST_H
+#define FOREST_H
+
+#include <stddef.h>
+#include <stdint.h>
+
+/* The listing of a file of records. */
+uint64_t forest_list(const uint8_t *file, size_t file_len, uint8_t *out, size_t out_len);
+
+/* What the program prints for a file: the listing, or the line `refused N at M`. 11 alone is a refusal here. */
+uint64_t forest_report(const uint8_t *file, size_t file_len, uint8_t *out, size_t out_len);
+
+/* A single record, read and written again. */
+uint64_t forest_rewrite(const uint8_t *record, size_t record_len, uint8_t *out, size_t out_len);
+
+/* The check of a site value: 0, or the first rule it breaks. */
+uint64_t forest_check(const uint8_t *site, size_t site_len);
+
+/* Four numbers: CLmaxS, CLminN, CLmaxN, CLnutN. */
+uint64_t forest_loads(const uint8_t *site, size_t site_len, uint64_t *out, size_t out_len);
+
+/* Eight numbers: the four loads, region, acid exceedance, nutrient exceedance, mark (0 within, 1 over). */
+uint64_t forest_judge(const uint8_t *site, size_t site_len, uint64_t *out, size_t out_len);
+
+#endif
