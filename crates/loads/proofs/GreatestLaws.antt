@@ -6,7 +6,7 @@ use mathlib.Core.Logic.{⊎-elim}
 use native.Mathlib.Omega.{arith}
 use Rattle.site.specs.Choice.{pick}
 use Rattle.loads.specs.Hydrogen.{greatestWhere}
-use Rattle.loads.proofs.Tables.{le-or-lt}
+use Rattle.site.proofs.Tests.{le-or-lt}
 
 module _ (p : ℕ → Bool) where
   pub greatest-le : (n : ℕ) → greatestWhere p n ≤ n

@@ -9,7 +9,7 @@ use lib.Dec.{leb}
 use Rattle.loads.specs.Hydrogen.{hydrogenOf, alOf, levelOf, inside}
 use Rattle.loads.proofs.GreatestLaws.{greatest-le, greatest-passes, greatest-most, greatest-unique}
 use Rattle.loads.proofs.Numbers.{div-mono}
-use Rattle.loads.proofs.Tables.{and-right}
+use Rattle.site.proofs.Tests.{and-r}
 
 module _ (q k : ℕ) where
   pub hydrogenOf-mono : {i j : ℕ} → i ≤ j → hydrogenOf q i ≤ hydrogenOf q j
@@ -80,4 +80,4 @@ alOf-bound {q} {k} {h} a b c = rw (cube h) (omega (arith, al-le a b c))
 -- what the test of a range gives
 pub inside-le : (x least most : ℕ) → inside x least most ≡ true → x ≤ most
 unfolding inside
-inside-le x least most h = leb-true x most (and-right (leb least x) (leb x most) h)
+inside-le x least most h = leb-true x most (and-r (leb least x) (leb x most) h)

@@ -5,3 +5,5 @@ pub mod UptakeLaws
 pub mod GreatestLaws
 pub mod LevelLaws
 pub mod TermLaws
+pub mod OneSiteLaws
+pub mod AnswerLaws

@@ -1,43 +1,31 @@
 -- The rules of the constant tables, each by one test that is computed over the whole table.
 use Prim.Native.Nat.{ℕ, zero, suc, _+_, _-_, _≤_, _<_}
-use mathlib.Core.Bool.{Bool, true, false, true≢false, _&&_, _||_}
-use mathlib.Core.Path.{_≡_, refl, sym}
+use mathlib.Core.Bool.{Bool, true, _&&_, _||_}
+use mathlib.Core.Path.{_≡_, refl}
 use mathlib.Core.Logic.{_⊎_, inl, inr, ⊎-elim}
 use mathlib.Core.List.{[], _∷_}
 use native.Mathlib.Omega.{arith}
-use native.Mathlib.Decide.{decLe}
 use borrow.Author.Tests.{leb-true, ne-eqb}
 use lib.Dec.{leb, eqb}
 use lib.ListN.{getD, List·getD-eq-default}
+use Rattle.site.proofs.Tests.{le-or-lt, and-l, and-r}
 use Rattle.loads.specs.Weathering.{classOf}
 use Rattle.loads.specs.Uptake.{content}
 use Rattle.loads.specs.Nitrogen.{denitrified, retainedOf}
 
-pub le-or-lt : (a b : ℕ) → (a ≤ b) ⊎ (b < a)
-le-or-lt a b = go (decLe a b)
-  where
-    go : Dec (a ≤ b) → (a ≤ b) ⊎ (b < a)
-    go (yes p) = inl p
-    go (no n) = inr (omega arith)
+pub lt-or-le : (a b : ℕ) → (a < b) ⊎ (b ≤ a)
+lt-or-le a b = ⊎-elim (λ h. inr h) (λ h. inl h) (le-or-lt b a)
 
 -- a test at each number below n, and at one of them
 abbrev pub allBelow : (ℕ → Bool) → ℕ → Bool
 allBelow p zero = true
 allBelow p (suc n) = p n && allBelow p n
 
-pub and-left : (a b : Bool) → a && b ≡ true → a ≡ true
-and-left true b h = refl
-and-left false b h = h
-
-pub and-right : (a b : Bool) → a && b ≡ true → b ≡ true
-and-right true b h = h
-and-right false b h = absurd (true≢false (sym h))
-
 pub one-below : (p : ℕ → Bool) (n : ℕ) → allBelow p n ≡ true → (k : ℕ) → k < n → p k ≡ true
 one-below p zero h k l = absurd (omega arith)
 one-below p (suc n) h k l =
-    ⊎-elim (λ (q : k < n). one-below p n (and-right (p n) (allBelow p n) h) k q)
-    (λ (q : n < suc k). let e : k ≡ n = omega arith in rw e (and-left (p n) (allBelow p n) h))
+    ⊎-elim (λ (q : k < n). one-below p n (and-r (p n) (allBelow p n) h) k q)
+    (λ (q : n < suc k). let e : k ≡ n = omega arith in rw e (and-l (p n) (allBelow p n) h))
     (le-or-lt (suc k) n)
 
 -- class k is 20 at most, and 1 at least where the parent material is not organic
@@ -51,11 +39,11 @@ class-tested p t h i j =
     rw (← e) (one-below (λ i. classTest p (i + 1)) 5 (one-below (λ p. allBelow (λ i. classTest p (i + 1)) 5) 5 refl p (omega arith)) (t - 1) (omega arith))
 
 pub class-le : (p t : ℕ) → p ≤ 4 → 1 ≤ t → t ≤ 5 → classOf p t ≤ 20
-class-le p t h i j = leb-true (classOf p t) 20 (and-left (leb (classOf p t) 20) _ (class-tested p t h i j))
+class-le p t h i j = leb-true (classOf p t) 20 (and-l (leb (classOf p t) 20) _ (class-tested p t h i j))
 
 pub class-pos : (p t : ℕ) → p ≤ 4 → (p ≡ 0 → ⊥) → 1 ≤ t → t ≤ 5 → 1 ≤ classOf p t
 class-pos p t h n i j =
-    let here : eqb p 0 || leb 1 (classOf p t) ≡ true = and-right (leb (classOf p t) 20) _ (class-tested p t h i j) in
+    let here : eqb p 0 || leb 1 (classOf p t) ≡ true = and-r (leb (classOf p t) 20) _ (class-tested p t h i j) in
     leb-true 1 (classOf p t) (rw (ne-eqb p 0 n) at here)
 
 pub content-le : (species element : ℕ) → species ≤ 8 → element < 4 → content species element ≤ 14993

@@ -5,5 +5,6 @@ pub mod Uptake
 pub mod Hydrogen
 pub mod Nitrogen
 pub mod CriticalLoads
+pub mod OneSite
 pub mod Conditions
 pub mod Example

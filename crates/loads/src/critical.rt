@@ -6,6 +6,7 @@ ghost use Rattle.loads.specs.Uptake.{baseDemand};
 ghost use Rattle.loads.specs.CriticalLoads.{maxS, loadsOf, loadsAnswer, loadsValues};
 ghost use Rattle.loads.specs.Conditions.{AcidBounds, NitrogenBounds, acidLoad};
 use crate::Loads;
+use crate::LoadsAnswer;
 use crate::hydrogen::aluminium_limit;
 use crate::hydrogen::critical_leaching;
 use crate::nitrogen::leaching_of;
@@ -17,7 +18,9 @@ use crate::weathering::weathering_of;
 use crate::widen::index8;
 use crate::widen::wide8;
 use crate::widen::wide16;
+use site::Checked;
 use site::Site;
+use site::check_site;
 
 // CLmaxS of plain numbers: W is weathered, w its available part
 fn acid_load(
@@ -83,4 +86,15 @@ fn loads_of(s: Site) -> Loads
     let leached = leaching_of(wide16(s.percolation), wide16(s.leachate));
     let e = retained_of(s.drainage);
     with_nitrogen(max_s_of(s, demand), min_n, leached, e)
+}
+
+// The loads of a site, or the first rule that it breaks.
+pub fn critical_loads(site: Site) -> LoadsAnswer
+    ensures answer { λ r. ⌜ r ≡ loadsAnswer site ⌝ }
+    ensures values { λ r. ⌜ loadsValues r ≡ loadsValues (loadsAnswer site) ⌝ }
+{
+    match check_site(site) {
+        Checked::Broken(rule) => LoadsAnswer::Refused(rule),
+        Checked::Passed => LoadsAnswer::Given(loads_of(site)),
+    }
 }

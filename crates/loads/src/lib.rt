@@ -7,6 +7,7 @@ mod uptake;
 mod weathering;
 mod widen;
 
+pub use critical::critical_loads;
 pub use hydrogen::greatest_level;
 pub use nitrogen::retained_of;
 use site::Rule;

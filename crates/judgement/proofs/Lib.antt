@@ -1,0 +1,6 @@
+pub mod RegionLaws
+pub mod NotCutOff
+pub mod Least
+pub mod Demand3
+pub mod Monotone
+pub mod AnswerLaws

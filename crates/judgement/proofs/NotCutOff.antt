@@ -1,0 +1,1 @@
+-- No subtraction of the regions and exceedances is cut off where its value is used.
