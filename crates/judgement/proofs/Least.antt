@@ -7,7 +7,8 @@ use native.Mathlib.Nat.{mul-le-mul-left, mul-le-mul-right, le-of-mul-le-mul-left
 use Rattle.loads.specs.Rounding.{up}
 use Rattle.site.proofs.Tests.{le-or-lt}
 use Rattle.judgement.specs.Regions.{D, excess, regionOf, acidIn, acidOf}
-use Rattle.judgement.proofs.RegionLaws.{by-region, slope-one, slope-three}
+use Rattle.judgement.proofs.RegionLaws.{by-region}
+use Rattle.judgement.proofs.NotCutOff.{slope-one, slope-three}
 
 -- (b − a) × (d − c) is not below 0: what `omega` lacks for products of inequalities
 pub cross : {a b c d : ℕ} → a ≤ b → c ≤ d → a * d + b * c ≤ a * c + b * d

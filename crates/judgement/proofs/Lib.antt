@@ -1,5 +1,6 @@
 pub mod RegionLaws
 pub mod NotCutOff
+pub mod Exceeding
 pub mod Least
 pub mod Demand3
 pub mod Monotone

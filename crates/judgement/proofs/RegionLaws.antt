@@ -78,62 +78,6 @@ module _ (S N C m e : ℕ) where
       (λ n v t k h. absurd (omega arith))
       (λ n v t k h. absurd (omega arith))
 
-  -- No subtraction of document 01 is cut off where its value is used. v, outside region 0:
-  pub v-positive : (regionOf S N C m e ≡ Unexceeded → ⊥) → 1000 * C < 1000 * S + e * (N - m)
-  v-positive h = ⊎-elim (λ l. absurd (h (closes-zero l))) (λ g. g) (le-or-lt (1000 * S + e * (N - m)) (1000 * C))
-
-  -- S − CLmaxS, in region 4
-  pub four-above : regionOf S N C m e ≡ SulphurOnly → C < S
-  unfolding regionNumber
-  four-above =
-      by-region (λ r. r ≡ SulphurOnly → C < S) (λ v q. omega (arith, ap regionNumber q)) (λ n g q. g)
-      (λ n v t q. omega (arith, ap regionNumber q))
-      (λ n v t k q. omega (arith, ap regionNumber q))
-      (λ n v t k q. omega (arith, ap regionNumber q))
-
-  -- e × n − 1000 × CLmaxS, in region 1
-  pub slope-one : S * D e < 1000 * excess S C e (N - m) → 1000 * C < e * (N - m)
-  unfolding D excess
-  slope-one t = omega (arith, mul-add S 1000000 (e * e))
-
-  pub one-above : regionOf S N C m e ≡ NoSulphur → 1000 * C < e * (N - m)
-  unfolding regionNumber
-  one-above =
-      by-region (λ r. r ≡ NoSulphur → 1000 * C < e * (N - m)) (λ v q. omega (arith, ap regionNumber q))
-      (λ n g q. omega (arith, ap regionNumber q))
-      (λ n v t q. omega (arith, ap regionNumber q))
-      (λ n v t k q. slope-one k)
-      (λ n v t k q. omega (arith, ap regionNumber q))
-
-  -- n + S − CLmaxS, in region 3, where S is above CLmaxS already
-  pub slope-three : (N - m) * D e < e * excess S C e (N - m) → C < S
-  unfolding D excess
-  slope-three t =
-      ⊎-elim
-      (λ l.
-      let n = N - m in
-      let less : e * (1000 * S + e * n - 1000 * C) ≤ e * (e * n) = mul-le-mul-left e (omega arith) in
-      absurd (omega (arith, mul-add n 1000000 (e * e), mul-assoc e e n, mul-comm (e * e) n)))
-      (λ g. g)
-      (le-or-lt S C)
-
-  pub three-above : regionOf S N C m e ≡ Corner → C < S
-  unfolding regionNumber
-  three-above =
-      by-region (λ r. r ≡ Corner → C < S) (λ v q. omega (arith, ap regionNumber q))
-      (λ n g q. omega (arith, ap regionNumber q))
-      (λ n v t q. slope-three t)
-      (λ n v t k q. omega (arith, ap regionNumber q))
-      (λ n v t k q. omega (arith, ap regionNumber q))
-
-  -- n, in regions 1, 2 and 3
-  pub beyond : (r : Region) → regionOf S N C m e ≡ r → 0 < regionNumber r → regionNumber r < 4 → m < N
-  unfolding regionNumber
-  beyond r q =
-      rw (← q)
-      (by-region (λ x. 0 < regionNumber x → regionNumber x < 4 → m < N) (λ v a b. omega arith) (λ n g a b. omega arith)
-      (λ n v t a b. n) (λ n v t k a b. n) (λ n v t k a b. n))
-
   -- each region by the tests that lead to it
   pub is-four : N ≤ m → C < S → regionOf S N C m e ≡ SulphurOnly
   is-four a b =
@@ -156,22 +100,27 @@ module _ (S N C m e : ℕ) where
         by-region (λ r. r ≡ Slope) (λ v. absurd (omega arith)) (λ n g. absurd (omega arith)) (λ n v t. absurd (omega arith))
         (λ n v t k. absurd (omega arith)) (λ n v t k. refl)
 
--- a quotient, up, is above 0 where its dividend is
-pub up-pos : (x d : ℕ) → 0 < x → 0 < d → 0 < up x d
-unfolding up
-up-pos x d h i = le-div-iff-mul-le i .1 (omega (arith, one-mul d))
+-- What each region asks: its own conditions, and that no earlier region applies.
+abbrev pub Lies : Region → (S N C m e : ℕ) → Type 0
+Lies Unexceeded S N C m e = 1000 * S + e * (N - m) ≤ 1000 * C
+Lies SulphurOnly S N C m e = (N ≤ m) × (C < S)
+Lies Corner S N C m e = (m < N) × (1000 * C < 1000 * S + e * (N - m)) × ((N - m) * D e < e * excess S C e (N - m))
+Lies NoSulphur S N C m e =
+    (m < N) × (1000 * C < 1000 * S + e * (N - m)) × (e * excess S C e (N - m) ≤ (N - m) * D e) × (S * D e < 1000 * excess S C e (N - m))
+Lies Slope S N C m e =
+    (m < N) × (1000 * C < 1000 * S + e * (N - m)) × (e * excess S C e (N - m) ≤ (N - m) * D e) × (1000 * excess S C e (N - m) ≤ S * D e)
 
--- the acid exceedance is 0 in region 0 alone
-pub exceeds : (S N C m e : ℕ) → 0 < e → (regionOf S N C m e ≡ Unexceeded → ⊥) → 0 < acidIn (regionOf S N C m e) S N C m e
-unfolding acidIn D excess
-exceeds S N C m e p out =
-    by-region S N C m e (λ r. (r ≡ Unexceeded → ⊥) → 0 < acidIn r S N C m e)
-    (λ v o. absurd (o refl))
-    (λ n g o. omega arith)
-    (λ n v t o. omega (arith, slope-three S N C m e t))
-    (λ n v t k o. omega (arith, slope-one S N C m e k, up-pos (e * (N - m) - 1000 * C) e (omega (arith, slope-one S N C m e k)) p))
-    (λ n v t k o. up-pos ((1000 + e) * excess S C e (N - m)) (D e) (mul-pos (omega arith) (omega arith)) (omega arith))
-    out
+-- every pair lies in exactly one region
+pub lies-in : (S N C m e : ℕ) → Lies (regionOf S N C m e) S N C m e
+lies-in S N C m e =
+    by-region S N C m e (λ r. Lies r S N C m e) (λ v. v) (λ n g. (n, g)) (λ n v t. (n, v, t)) (λ n v t k. (n, v, t, k)) (λ n v t k. (n, v, t, k))
+
+pub lies-only : (r : Region) (S N C m e : ℕ) → Lies r S N C m e → regionOf S N C m e ≡ r
+lies-only Unexceeded S N C m e l = closes-zero S N C m e l
+lies-only SulphurOnly S N C m e l = is-four S N C m e (l .0) (l .1)
+lies-only Corner S N C m e l = is-three S N C m e (l .0) (l .1) (l .2)
+lies-only NoSulphur S N C m e l = is-one S N C m e (l .0) (l .1) (l .2) (l .3)
+lies-only Slope S N C m e l = is-two S N C m e (l .0) (l .1) (l .2) (l .3)
 
 -- every product of the judgement, with room in 64 bits
 pub record Sizes (S N C m e : ℕ) : Type 0 where

@@ -1,10 +1,8 @@
 -- `judgement::exceedance::acid_in` meets its contract. Assumes nothing.
-use mathlib.Core.Path.{_≡_, refl, sym, _∙_, ap}
+use mathlib.Core.Path.{sym, _∙_}
 use native.Mathlib.Omega.{arith}
-use native.Mathlib.Nat.{le-of-lt}
-use Rattle.judgement.specs.Regions.{regionNumber, acidIn}
-use Rattle.judgement.specs.declared.Region.the-variants.{Unexceeded, NoSulphur, Slope, Corner, SulphurOnly}
-use Rattle.judgement.proofs.RegionLaws.{beyond, v-positive, one-above, three-above, four-above}
+use Rattle.judgement.specs.Regions.{acidIn}
+use Rattle.judgement.proofs.NotCutOff.{in-four, in-three, in-one, in-two}
 use borrow.Author.Needs.{needs}
 use Rattle.judgement.proofs.exceedance.acid_in.Statement.{statement}
 use Rattle.judgement.proofs.exceedance.acid_in.Tie as tie
@@ -20,52 +18,43 @@ enum-told-2 : tie.Need-enum-told-2
 enum-told-2 c = search needs
 
 sub-acid-no-sulphur : tie.Need-sub-acid-no-sulphur
-unfolding regionNumber
-sub-acid-no-sulphur c = let a = c .before .before .args in le-of-lt (beyond (a .s) (a .n) (a .c) (a .m) (a .e) NoSulphur (sym (c .before .before .pre .own) ∙ c .enum-told2 .given .1) (omega arith) (omega arith))
+sub-acid-no-sulphur c = let a = c .before .before .args in in-one (a .s) (a .n) (a .c) (a .m) (a .e) (sym (c .before .before .pre .own) ∙ c .enum-told2 .given .1) .0
 
 acid-no-sulphur-requires : tie.Need-acid-no-sulphur-requires
 acid-no-sulphur-requires c κs =
     let a = c .before .before .args in
-    let p = c .before .before .pre in
-    (p .pair .sulphur, p .pair .positive, p .pair .retained, omega arith, le-of-lt (one-above (a .s) (a .n) (a .c) (a .m) (a .e) (sym (c .before .before .pre .own) ∙ c .enum-told2 .given .1)))
+    let p = c .before .before .pre .pair in
+    (p .sulphur, p .positive, p .retained, omega arith, in-one (a .s) (a .n) (a .c) (a .m) (a .e) (sym (c .before .before .pre .own) ∙ c .enum-told2 .given .1) .1)
 
 enum-told-3 : tie.Need-enum-told-3
 enum-told-3 c = search needs
 
 sub-acid-slope : tie.Need-sub-acid-slope
-unfolding regionNumber
-sub-acid-slope c = let a = c .before .before .args in le-of-lt (beyond (a .s) (a .n) (a .c) (a .m) (a .e) Slope (sym (c .before .before .pre .own) ∙ c .enum-told3 .given .1) (omega arith) (omega arith))
+sub-acid-slope c = let a = c .before .before .args in in-two (a .s) (a .n) (a .c) (a .m) (a .e) (sym (c .before .before .pre .own) ∙ c .enum-told3 .given .1) .0
 
 acid-slope-requires : tie.Need-acid-slope-requires
-unfolding regionNumber
 acid-slope-requires c κs =
     let a = c .before .before .args in
-    let p = c .before .before .pre in (
-      p .pair .sulphur,
-      p .pair .positive,
-      p .pair .retained,
-      omega arith,
-      le-of-lt (v-positive (a .s) (a .n) (a .c) (a .m) (a .e) (λ z. let n : 2 ≡ 0 = ap regionNumber (sym (c .enum-told3 .given .1) ∙ p .own ∙ z) in omega arith)),
-    )
+    let p = c .before .before .pre .pair in
+    (p .sulphur, p .positive, p .retained, omega arith, in-two (a .s) (a .n) (a .c) (a .m) (a .e) (sym (c .before .before .pre .own) ∙ c .enum-told3 .given .1) .1)
 
 enum-told-4 : tie.Need-enum-told-4
 enum-told-4 c = search needs
 
 sub-result : tie.Need-sub-result
-unfolding regionNumber
-sub-result c = let a = c .before .before .args in le-of-lt (beyond (a .s) (a .n) (a .c) (a .m) (a .e) Corner (sym (c .before .before .pre .own) ∙ c .enum-told4 .given .1) (omega arith) (omega arith))
+sub-result c = let a = c .before .before .args in in-three (a .s) (a .n) (a .c) (a .m) (a .e) (sym (c .before .before .pre .own) ∙ c .enum-told4 .given .1) .0
 
 add-result : tie.Need-add-result
 add-result c = search needs
 
 sub-result-2 : tie.Need-sub-result-2
-sub-result-2 c = let a = c .before .before .args in omega (arith, three-above (a .s) (a .n) (a .c) (a .m) (a .e) (sym (c .before .before .pre .own) ∙ c .enum-told4 .given .1))
+sub-result-2 c = let a = c .before .before .args in in-three (a .s) (a .n) (a .c) (a .m) (a .e) (sym (c .before .before .pre .own) ∙ c .enum-told4 .given .1) .1
 
 enum-told-5 : tie.Need-enum-told-5
 enum-told-5 c = search needs
 
 sub-result-3 : tie.Need-sub-result-3
-sub-result-3 c = let a = c .before .before .args in le-of-lt (four-above (a .s) (a .n) (a .c) (a .m) (a .e) (sym (c .before .before .pre .own) ∙ c .enum-told5 .given .1))
+sub-result-3 c = let a = c .before .before .args in in-four (a .s) (a .n) (a .c) (a .m) (a .e) (sym (c .before .before .pre .own) ∙ c .enum-told5 .given .1)
 
 returns : tie.Need-returns
 unfolding acidIn
