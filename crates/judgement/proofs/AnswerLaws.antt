@@ -4,7 +4,9 @@ use mathlib.Core.Path.{_≡_, refl, sym, _∙_, ap}
 use mathlib.Core.Logic.{_↔_}
 use Rattle.site.specs.Check.{siteRule}
 use Rattle.site.specs.declared.Site.{Site}
-use Rattle.site.specs.declared.Checked.the-variants.{Passed}
+use Rattle.site.specs.Refusal.{valuesIf}
+use Rattle.site.specs.declared.Checked.{Checked}
+use Rattle.site.specs.declared.Checked.the-variants.{Passed, Broken}
 use Rattle.site.proofs.BoundsLaw.{bounds}
 use Rattle.loads.specs.CriticalLoads.{loadsOf}
 use Rattle.loads.specs.Nitrogen.{retained}
@@ -16,7 +18,7 @@ use Rattle.judgement.specs.declared.JudgementAnswer.{JudgementAnswer}
 use Rattle.judgement.specs.declared.JudgementAnswer.the-variants.{Given, Refused}
 use Rattle.judgement.specs.Balance.{Closes}
 use Rattle.judgement.specs.Regions.{regionOf, acidOf}
-use Rattle.judgement.specs.Verdicts.{region, acidExceedance, nutrientExceedance, verdictOf, verdict, judgedOf, judgementIf, judgementAnswer, judgementValues}
+use Rattle.judgement.specs.Verdicts.{region, acidExceedance, nutrientExceedance, verdictOf, verdict, judgedOf, judgementIf, judgementAnswer, judgedValues, judgementValues}
 use Rattle.judgement.proofs.Demand3.{within-iff-closes}
 
 -- a site that passes the check is judged
@@ -46,8 +48,14 @@ module _ (s : Site) (r : JudgementAnswer) (is : r ≡ judgementAnswer s) where
         λ k. is ∙ given s p ∙ ap (λ v. Given (record { loads = loadsOf s; verdict = v })) (iff .1 k),
       )
 
+  values-if : (c : Checked) (j : Judged) → judgementValues (judgementIf c j) ≡ valuesIf c (judgedValues j)
+  unfolding judgementValues judgementIf valuesIf
+  values-if Passed j = refl
+  values-if (Broken k) j = refl
+
   pub whole :
       (r ≡ judgementAnswer s)
-      × ((judgementValues r ≡ judgementValues (judgementAnswer s))
+      × ((judgementValues r ≡ valuesIf (siteRule s) (judgedValues (judgedOf s)))
       × (siteRule s ≡ Passed → (r ≡ Given (record { loads = loadsOf s; verdict = Within })) ↔ Closes s (s .sulphur) (s .nitrogen)))
-  whole = (is, (ap judgementValues is, within))
+  unfolding judgementAnswer
+  whole = (is, (ap judgementValues is ∙ values-if (siteRule s) (judgedOf s), within))
