@@ -2,8 +2,10 @@
 use Prim.Native.Nat.{ℕ, _-_}
 use mathlib.Core.Path.{_≡_, refl, sym, _∙_, ap}
 use mathlib.Core.Logic.{_↔_}
+use native.Mathlib.Omega.{arith}
 use Rattle.site.specs.Check.{siteRule}
 use Rattle.site.specs.declared.Site.{Site}
+use Rattle.site.specs.declared.Rule.{Rule}
 use Rattle.site.specs.Refusal.{valuesIf}
 use Rattle.site.specs.declared.Checked.{Checked}
 use Rattle.site.specs.declared.Checked.the-variants.{Passed, Broken}
@@ -28,6 +30,25 @@ given s p = rw p
 
 judged-in : {j k : Judged} → Given j ≡ Given k → j ≡ k
 judged-in e = cc
+
+-- what an answer says of its site
+given-if : (c : Checked) (j k : Judged) → judgementIf c j ≡ Given k → (c ≡ Passed) × (k ≡ j)
+unfolding judgementIf
+given-if Passed j k e = (refl, cc)
+given-if (Broken r) j k e = let z : _≡_ {A = ℕ} 0 1 = cc in absurd (omega arith)
+
+refused-if : (c : Checked) (j : Judged) (r : Rule) → judgementIf c j ≡ Refused r → c ≡ Broken r
+unfolding judgementIf
+refused-if Passed j r e = let z : _≡_ {A = ℕ} 0 1 = cc in absurd (omega arith)
+refused-if (Broken k) j r e = cc
+
+pub judged : (s : Site) (j : Judged) → judgementAnswer s ≡ Given j → (siteRule s ≡ Passed) × (j ≡ judgedOf s)
+unfolding judgementAnswer
+judged s j e = given-if (siteRule s) (judgedOf s) j e
+
+pub refused : (s : Site) (r : Rule) → judgementAnswer s ≡ Refused r → siteRule s ≡ Broken r
+unfolding judgementAnswer
+refused s r e = refused-if (siteRule s) (judgedOf s) r e
 
 verdict-in : {l : Loads} {v w : Verdict} → Given (record { loads = l; verdict = v }) ≡ Given (record { loads = l; verdict = w }) → v ≡ w
 verdict-in e = ap (λ (j : Judged). j .verdict) (judged-in e)
