@@ -36,7 +36,7 @@ level-requires : tie.Need-level-requires
 level-requires c κs =
     let at = c .before .before .before in
     let a = at .before .before .before .args in
-    rw (c .before .before .wide16 .ensures, c .before .wide162 .ensures, c .wide163 .ensures) (level-passed (a .q) (a .k) (a .ceiling) (passed at))
+    rw (c .before .before .wide16 .ensures .0, c .before .wide162 .ensures .0, c .wide163 .ensures .0) (level-passed (a .q) (a .k) (a .ceiling) (passed at))
 
 returns : tie.Need-returns
 unfolding levelAnswer levelIf
@@ -50,7 +50,7 @@ returns-2 c =
     let at = c .before .before .before .before in
     let a = at .before .before .before .args in
     whole (a .q) (a .k) (a .limit) (a .ceiling) _
-    (rw (passed at, c .level .ensures, c .before .before .before .wide16 .ensures, c .before .before .wide162 .ensures, c .before .wide163 .ensures))
+    (rw (passed at, c .level .ensures, c .before .before .before .wide16 .ensures .0, c .before .before .wide162 .ensures .0, c .before .wide163 .ensures .0))
 
 pub greatest-level-spec : {M : Type 1} → statement M
 greatest-level-spec =
