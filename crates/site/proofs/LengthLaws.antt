@@ -87,6 +87,10 @@ count-parts t s e =
     let both = pass-then (leb 1 n && leb n m) BadLength Passed e .0 in
     (leb-true 1 n (and-l (leb 1 n) (leb n m) both), leb-true n m (and-r (leb 1 n) (leb n m) both))
 
+pub parts-counted : (t : ℕ) (s : Site) → 1 ≤ itemCount t s → itemCount t s ≤ getD mostItems t 0 → countRule t s ≡ Passed
+unfolding countRule
+parts-counted t s some most = rw (le-leb _ _ some, le-leb _ _ most)
+
 -- a tag that is none of 1 to 15 has no items, so no length and no count is permitted
 no-items : (t : ℕ) → (t < 16 → t ≡ 0) → getD mostItems t 0 ≡ 0
 no-items t h = ⊎-elim (λ (past : 16 ≤ t). rw List·getD-eq-default) (λ below. rw (h below)) (le-or-lt 16 t)
