@@ -6,7 +6,7 @@ use Prim.Native.Nat.{ℕ, _+_, _-_, _≤_, _<_}
 use native.Mathlib.Nat.{add-sub-cancel-left}
 use native.Mathlib.Omega.{arith}
 use lib.Dec.{ltb, eqb}
-use lib.ListN.{length, getD, take, drop, drop-of-length-le}
+use lib.ListN.{length, getD, take, drop, length-take, length-drop, drop-of-length-le}
 use lib.Seq.{drop-drop}
 use borrow.Author.Tests.{eqb-true, ltb-false, ne-eqb, eq-eqb, le-ltb}
 use Rattle.site.specs.declared.Site.{Site}
@@ -24,7 +24,8 @@ use Rattle.record.specs.declared.Outcome.the-variants.{Accepted, Refused
 use Rattle.record.specs.Bytes.{statedLen, valueAt}
 use Rattle.record.specs.Field.{blankSite}
 use Rattle.record.specs.Reader.{walk, unless, refusedAt, accepted}
-use Rattle.record.specs.Outer.{outerRule, nextOf, found, recordIn, recordAt, alone, onlyOne, readRecord}
+use Rattle.record.specs.Outer.{outcomeNumbers, outerRule, nextOf, found, recordIn, recordAt, alone, onlyOne, readRecord}
+use Rattle.record.proofs.WalkLaws.{rest-all}
 
 -- what an outer field that passed says
 pub record OuterOk (bs : List ℕ) : Type 0 where
@@ -48,21 +49,37 @@ outer-passed bs e =
     let g : n ≤ length bs - 3 = ltb-false (length bs - 3) n (p4 .0) in
     record { room = h; tag = eqb-true (getD bs 0 0) 82 (p2 .0); small = ltb-false 255 n (p3 .0); inside = omega arith }
 
--- ---- the record of f at offset `at`
+pub found-numbers : (x y : Found) → x ≡ y → (x ≡ y) × (outcomeNumbers (x .outcome) ≡ outcomeNumbers (y .outcome))
+found-numbers x y e = (e, ap (λ (z : Found). outcomeNumbers (z .outcome)) e)
+
+-- ---- the record x of f at offset `at`, as the code makes it: from the slice of f that starts there
 
 module _ (f : List ℕ) (at : ℕ) where
-  pub record-past : length f < at → (end : ℕ) → recordAt f at ≡ found (refusedAt OuterCut at) at end
-  unfolding recordAt recordIn outerRule unless found refusedAt nextOf
-  record-past h end = let e : drop at f ≡ [] = drop-of-length-le f {i = at} (omega arith) in rw e
+  abbrev front : List ℕ
+  front = take (length f - at) (drop at f)
 
-  pub record-broken : (r : Rule) → outerRule (drop at f) ≡ Broken r → (end : ℕ) → recordAt f at ≡ found (refusedAt r at) at end
-  unfolding recordAt recordIn unless found refusedAt nextOf
-  record-broken r e end = rw e
+  pub outer-inside : outerRule front ≡ Passed → at + 3 + statedLen front ≤ length f
+  outer-inside e =
+      let o = outer-passed front e in
+      let l : length front ≡ length f - at = simp (length-take, length-drop) (omega arith) in
+      omega (arith, o .inside)
 
-  pub record-walked : outerRule (drop at f) ≡ Passed → (start end : ℕ) → start ≡ at + 3 → end ≡ start + statedLen (drop at f)
-      → recordAt f at ≡ found (walk due blankSite (take (end - start) (drop start f)) start) at end
-  unfolding recordAt recordIn unless
-  record-walked e start end p q = rw (e, q, p, add-sub-cancel-left, drop-drop)
+  module _ (r : Read) (x : Found) where
+    pub record-past : length f < at → (end : ℕ) → r ≡ refusedAt OuterCut at → x ≡ found r at end → x ≡ recordAt f at
+    unfolding recordAt recordIn outerRule unless found refusedAt nextOf
+    record-past h end is made = let e : drop at f ≡ [] = drop-of-length-le f {i = at} (omega arith) in rw (made, is, e)
+
+    pub record-broken : (k : Rule) → outerRule front ≡ Broken k → (end : ℕ) → r ≡ refusedAt k at → x ≡ found r at end → x ≡ recordAt f at
+    unfolding recordAt recordIn unless found refusedAt nextOf
+    record-broken k e end is made = let q : outerRule (drop at f) ≡ Broken k = rw rest-all at e in rw (made, is, q)
+
+    pub record-walked : outerRule front ≡ Passed → (n : ℕ) → n ≡ statedLen front
+        → r ≡ walk due blankSite (take (at + 3 + n - (at + 3)) (drop (at + 3) f)) (at + 3) → x ≡ found r at (at + 3 + n) → x ≡ recordAt f at
+    unfolding recordAt recordIn unless
+    record-walked e n len is made =
+        let q : outerRule (drop at f) ≡ Passed = rw rest-all at e in
+        let l : n ≡ statedLen (drop at f) = rw rest-all at len in
+        rw (made, is, l, q, add-sub-cancel-left, drop-drop)
 
 -- ---- the file of at most one record
 

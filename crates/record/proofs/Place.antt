@@ -40,7 +40,7 @@ use Rattle.record.proofs.PassesLaw.{walked-passes, walked-sized, walked
 abbrev readOf : Outcome → Site → Read
 readOf o s = record { outcome = o; site = s }
 
-accepted-is : (r : Read) → r .outcome ≡ Accepted → r ≡ accepted (r .site)
+pub accepted-is : (r : Read) → r .outcome ≡ Accepted → r ≡ accepted (r .site)
 unfolding accepted
 accepted-is r e = ap (λ (o : Outcome). readOf o (r .site)) e
 

@@ -20,13 +20,13 @@ use Rattle.record.specs.declared.Outcome.{Outcome}
 use Rattle.record.specs.declared.Outcome.the-variants.{Accepted, Refused}
 use Rattle.record.specs.Bytes.{statedLen, valueAt, fieldOf}
 use Rattle.record.specs.Reader.{unless, refusedAt, accepted}
-use Rattle.record.specs.Outer.{outerRule, nextOf, found, recordIn, recordAt, alone, onlyOne, readRecord}
+use Rattle.record.specs.Outer.{outcomeNumbers, outerRule, nextOf, found, recordIn, recordAt, alone, onlyOne, readRecord}
 use Rattle.record.specs.RoundTrip.{clean, Sized, Bytes}
 use Rattle.record.specs.Writer.{encodeFields, encode}
 use Rattle.record.proofs.EncodeLaws.{record-length, length-encode}
 use Rattle.record.proofs.FieldBytes.{stated, field-length, field-tag, field-value}
 use Rattle.record.proofs.Parsed.{not-refused}
-use Rattle.record.proofs.Place.{record-passes, record-sized, record-clean, record-bytes}
+use Rattle.record.proofs.Place.{accepted-is, record-passes, record-sized, record-clean, record-bytes}
 use Rattle.record.proofs.ReadWritten.{read-encode}
 use Rattle.record.proofs.ValueLaws.{name-counts, stand-counts}
 
@@ -110,3 +110,9 @@ module _ (s : Site) (f : List ℕ) (e : readRecord f ≡ accepted s) where
 -- two different records never read to one site
 pub read-injective : (s : Site) (f g : List ℕ) → Bytes f → Bytes g → readRecord f ≡ accepted s → readRecord g ≡ accepted s → f ≡ g
 read-injective s f g b c p q = sym (written-read s f p b) ∙ written-read s g q c
+
+-- the reader's promises follow from its answer
+pub answered : (f : List ℕ) (r : Read) → Bytes f → r ≡ readRecord f
+    → (r ≡ readRecord f) × ((outcomeNumbers (r .outcome) ≡ outcomeNumbers (readRecord f .outcome)) × (r .outcome ≡ Accepted → encode (r .site) ≡ f))
+answered f r b e =
+    (e, (ap (λ (x : Read). outcomeNumbers (x .outcome)) e, λ o. written-read (r .site) f (sym e ∙ accepted-is r o) b))
