@@ -13,4 +13,5 @@ pub mod WrittenRead
 pub mod Place
 pub mod Locality
 pub mod RoundTrip
+pub mod WriteLaws
 pub mod Example

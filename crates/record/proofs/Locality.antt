@@ -6,7 +6,7 @@ use mathlib.Core.List.{List, [], _∷_}
 use Prim.Native.Nat.{ℕ, zero, suc, _+_, _-_, _≤_, _<_}
 use native.Mathlib.Nat.{add-assoc}
 use native.Mathlib.Omega.{arith}
-use lib.Dec.{ltb, eqb}
+use lib.Dec.{eqb}
 use lib.ListN.{length, getD, take, drop}
 use lib.Seq.{take-nil, take-all, take-take, getD-take, length-take-le}
 use borrow.Author.Tests.{lt-ltb, le-ltb}
@@ -117,9 +117,9 @@ found-moved : (d : ℕ) (r : Read) (at end : ℕ) → found (movedRead d r) (d +
 unfolding found nextOf movedRead moved movedOutcome
 found-moved d r at end = by-outcome (r .outcome) (r .site)
   where
-  by-outcome : (o : Outcome) (s : Site) → found (movedRead d (readOf o s)) (d + at) (d + end) ≡ moved d (found (readOf o s) at end)
-  by-outcome Accepted s = refl
-  by-outcome (Refused k i) s = refl
+    by-outcome : (o : Outcome) (s : Site) → found (movedRead d (readOf o s)) (d + at) (d + end) ≡ moved d (found (readOf o s) at end)
+    by-outcome Accepted s = refl
+    by-outcome (Refused k i) s = refl
 
 -- the same bytes at another offset: the same record, its offsets moved
 pub record-moved : (d : ℕ) (bs : List ℕ) (at : ℕ) → recordIn bs (d + at) ≡ moved d (recordIn bs at)

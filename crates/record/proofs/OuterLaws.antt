@@ -1,6 +1,5 @@
 -- Laws of the outer field, and of the file of at most one record.
-use mathlib.Core.Path.{_≡_, refl, sym, ap, _∙_}
-use mathlib.Core.Bool.{Bool, true, false}
+use mathlib.Core.Path.{_≡_, sym, ap}
 use mathlib.Core.List.{List, []}
 use Prim.Native.Nat.{ℕ, _+_, _-_, _≤_, _<_}
 use native.Mathlib.Nat.{add-sub-cancel-left}
@@ -8,8 +7,7 @@ use native.Mathlib.Omega.{arith}
 use lib.Dec.{ltb, eqb}
 use lib.ListN.{length, getD, take, drop, length-take, length-drop, drop-of-length-le}
 use lib.Seq.{drop-drop}
-use borrow.Author.Tests.{eqb-true, ltb-false, ne-eqb, eq-eqb, le-ltb}
-use Rattle.site.specs.declared.Site.{Site}
+use borrow.Author.Tests.{eqb-true, ltb-false, ne-eqb, eq-eqb}
 use Rattle.site.specs.declared.Rule.{Rule}
 use Rattle.site.specs.declared.Rule.the-variants.{NoBytes, OuterCut, OuterTag, TooMany}
 use Rattle.site.specs.declared.Checked.{Checked}
@@ -19,9 +17,8 @@ use Rattle.site.specs.Values.{due}
 use Rattle.site.proofs.Passing.{pass-else, pass-then}
 use Rattle.record.specs.declared.Read.{Read}
 use Rattle.record.specs.declared.Found.{Found}
-use Rattle.record.specs.declared.Outcome.{Outcome}
 use Rattle.record.specs.declared.Outcome.the-variants.{Accepted, Refused}
-use Rattle.record.specs.Bytes.{statedLen, valueAt}
+use Rattle.record.specs.Bytes.{statedLen}
 use Rattle.record.specs.Field.{blankSite}
 use Rattle.record.specs.Reader.{walk, unless, refusedAt, accepted}
 use Rattle.record.specs.Outer.{outcomeNumbers, outerRule, nextOf, found, recordIn, recordAt, alone, onlyOne, readRecord}

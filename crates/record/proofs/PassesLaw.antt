@@ -12,7 +12,7 @@ use Rattle.site.specs.Check.{fieldsRule, siteRule}
 use Rattle.site.specs.Refusal.{andThen}
 use Rattle.site.specs.Values.{due, lengthPermitted, itemCount, countRule, valueRule}
 use Rattle.site.proofs.LengthLaws.{permitted-parts, parts-counted}
-use Rattle.record.specs.Bytes.{valueAt, table, entryAt}
+use Rattle.record.specs.Bytes.{table, entryAt}
 use Rattle.record.specs.Field.{blankSite, store}
 use Rattle.record.specs.Reader.{walk, accepted}
 use Rattle.record.specs.RoundTrip.{clean, Sized}

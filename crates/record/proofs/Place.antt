@@ -1,31 +1,21 @@
 -- What an accepted record of a file says.
-use mathlib.Core.Path.{_≡_, refl, sym, ap, _∙_}
-use mathlib.Core.Logic.{⊎-elim}
-use mathlib.Core.Bool.{Bool, true, false}
-use mathlib.Core.List.{List, [], _∷_}
-use Prim.Native.Nat.{ℕ, zero, suc, _+_, _-_, _≤_, _<_}
-use native.Mathlib.Nat.{add-assoc, add-sub-cancel-left}
+use mathlib.Core.Path.{_≡_, ap}
+use mathlib.Core.List.{List}
+use Prim.Native.Nat.{ℕ, _+_, _-_, _≤_}
 use native.Mathlib.Omega.{arith}
-use lib.Dec.{ltb, eqb}
-use lib.ListN.{length, getD, take, drop, length-take, length-drop}
-use lib.Seq.{take-nil, take-all, getD-drop}
-use borrow.Author.Tests.{lt-ltb, le-ltb}
+use lib.ListN.{length, take, drop, length-drop}
+use lib.Seq.{getD-drop}
 use Rattle.site.specs.declared.Site.{Site}
-use Rattle.site.specs.declared.Rule.{Rule}
-use Rattle.site.specs.declared.Rule.the-variants.{OuterCut, OuterTag}
-use Rattle.site.specs.declared.Checked.{Checked}
-use Rattle.site.specs.declared.Checked.the-variants.{Passed, Broken}
+use Rattle.site.specs.declared.Checked.the-variants.{Passed}
 use Rattle.site.specs.Check.{siteRule}
-use Rattle.site.specs.Choice.{pick}
-use Rattle.site.specs.Values.{due, valueRule}
-use Rattle.site.proofs.Tests.{le-or-lt}
+use Rattle.site.specs.Values.{due}
 use Rattle.record.specs.declared.Read.{Read}
 use Rattle.record.specs.declared.Found.{Found}
 use Rattle.record.specs.declared.Outcome.{Outcome}
-use Rattle.record.specs.declared.Outcome.the-variants.{Accepted, Refused}
-use Rattle.record.specs.Bytes.{statedLen, valueAt, restAt, fieldOf}
+use Rattle.record.specs.declared.Outcome.the-variants.{Accepted}
+use Rattle.record.specs.Bytes.{statedLen, valueAt}
 use Rattle.record.specs.Field.{blankSite}
-use Rattle.record.specs.Reader.{headRule, walk, unless, fieldSite, refusedAt, accepted}
+use Rattle.record.specs.Reader.{walk, unless, accepted}
 use Rattle.record.specs.Outer.{outerRule, nextOf, found, recordIn, recordAt}
 use Rattle.record.specs.RoundTrip.{clean, Sized, Bytes}
 use Rattle.record.specs.Writer.{encodeFields, encode}

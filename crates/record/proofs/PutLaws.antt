@@ -34,7 +34,7 @@ put-put l at xs ys h =
     let n : length p ≡ at + length xs = simp (length-append, length-take) (omega arith) in
     let t : take (at + length xs) (p ++ d) ≡ p = take-at p d (at + length xs) n in
     let u : drop (at + length xs + length ys) (p ++ d) ≡ drop (at + length xs + length ys) l =
-        rw (sym n, drop-append-add, drop-drop) in
+    rw (sym n, drop-append-add, drop-drop) in
     let w : at + length (xs ++ ys) ≡ at + length xs + length ys = simp length-append (omega arith) in
     rw (t, u, w) (simp append-assoc)
 
@@ -49,7 +49,7 @@ put-three l at a b c h =
     let e1 : set l at a ≡ put l at (a ∷ []) = set-put l at a h0 in
     let l1 : length (put l at (a ∷ [])) ≡ length l = length-put l at (a ∷ []) (omega arith) in
     let e2 : set (put l at (a ∷ [])) (at + 1) b ≡ put l at (a ∷ b ∷ []) =
-        set-put (put l at (a ∷ [])) (at + 1) b (omega arith) ∙ put-put l at (a ∷ []) (b ∷ []) (omega arith) in
+    set-put (put l at (a ∷ [])) (at + 1) b (omega arith) ∙ put-put l at (a ∷ []) (b ∷ []) (omega arith) in
     let l2 : length (put l at (a ∷ b ∷ [])) ≡ length l = length-put l at (a ∷ b ∷ []) (omega arith) in
     rw (e1, e2) (set-put (put l at (a ∷ b ∷ [])) (at + 2) c (omega arith) ∙ put-put l at (a ∷ b ∷ []) (c ∷ []) (omega arith))
 

@@ -2,7 +2,7 @@
 use mathlib.Core.Path.{_≡_, refl, ap, _∙_}
 use mathlib.Core.Bool.{true}
 use mathlib.Core.List.{List, [], _∷_}
-use Prim.Native.Nat.{ℕ, _+_, _*_, _/_, _≤_, _<_}
+use Prim.Native.Nat.{ℕ, _*_, _/_, _≤_, _<_}
 use native.Mathlib.Omega.{arith}
 use lib.ListN.{length, getD, take}
 use Rattle.site.specs.declared.Site.{Site}
@@ -12,7 +12,7 @@ use Rattle.site.specs.Check.{siteRule}
 use Rattle.site.specs.Values.{due, lengthPermitted, countRule, valueRule}
 use Rattle.site.proofs.FieldLaws.{site-passed}
 use Rattle.site.proofs.LengthLaws.{parts-permitted}
-use Rattle.record.specs.Bytes.{table, entriesBytes}
+use Rattle.record.specs.Bytes.{table}
 use Rattle.record.specs.Field.{blankSite, store, value}
 use Rattle.record.specs.Reader.{walk, unless, accepted}
 use Rattle.record.specs.RoundTrip.{clean, Sized}
@@ -78,23 +78,52 @@ module _ (s : Site) (z : Sized s) where
 
     all-good : AllGood due s
     unfolding AllGood lengthPermitted value valueRule store
-    all-good =
-        ( good-name (site-passed s e 0 (omega arith) .0) (passed 0 (omega arith))
-        , (good 2 s refl (λ x. refl) (passed 1 (omega arith))
-        , (good 3 s refl (λ x. refl) (passed 2 (omega arith))
-        , (good 4 s refl (λ x. refl) (passed 3 (omega arith))
-        , (good 5 s refl (λ x. refl) (passed 4 (omega arith))
-        , (good 6 s refl (λ x. rw (word-back (s .percolation))) (passed 5 (omega arith))
-        , (good-stand (site-passed s e 6 (omega arith) .0) (passed 6 (omega arith))
-        , (good 8 s refl (λ x. rw (word-back (s .immobilisation))) (passed 7 (omega arith))
-        , (good 9 s refl (λ x. refl) (passed 8 (omega arith))
-        , (good 10 s refl (λ x. rw (word-back (s .«base_deposition»))) (passed 9 (omega arith))
-        , (good 11 s refl (λ x. rw (word-back (s .ratio))) (passed 10 (omega arith))
-        , (good 12 s refl (λ x. rw (word-back (s .gibbsite))) (passed 11 (omega arith))
-        , (good 13 s refl (λ x. rw (word-back (s .ceiling))) (passed 12 (omega arith))
-        , (good 14 s refl (λ x. rw (word-back (s .leachate))) (passed 13 (omega arith))
-        , (good 15 s refl (λ x. refl) (passed 14 (omega arith))
-        , tt)))))))))))))))
+    all-good = (
+      good-name (site-passed s e 0 (omega arith) .0) (passed 0 (omega arith)),
+      (
+        good 2 s refl (λ x. refl) (passed 1 (omega arith)),
+        (
+          good 3 s refl (λ x. refl) (passed 2 (omega arith)),
+          (
+            good 4 s refl (λ x. refl) (passed 3 (omega arith)),
+            (
+              good 5 s refl (λ x. refl) (passed 4 (omega arith)),
+              (
+                good 6 s refl (λ x. rw (word-back (s .percolation))) (passed 5 (omega arith)),
+                (
+                  good-stand (site-passed s e 6 (omega arith) .0) (passed 6 (omega arith)),
+                  (
+                    good 8 s refl (λ x. rw (word-back (s .immobilisation))) (passed 7 (omega arith)),
+                    (
+                      good 9 s refl (λ x. refl) (passed 8 (omega arith)),
+                      (
+                        good 10 s refl (λ x. rw (word-back (s .«base_deposition»))) (passed 9 (omega arith)),
+                        (
+                          good 11 s refl (λ x. rw (word-back (s .ratio))) (passed 10 (omega arith)),
+                          (
+                            good 12 s refl (λ x. rw (word-back (s .gibbsite))) (passed 11 (omega arith)),
+                            (
+                              good 13 s refl (λ x. rw (word-back (s .ceiling))) (passed 12 (omega arith)),
+                              (
+                                good 14 s refl (λ x. rw (word-back (s .leachate))) (passed 13 (omega arith)),
+                                (
+                                  good 15 s refl (λ x. refl) (passed 14 (omega arith)),
+                                  tt,
+                                ),
+                              ),
+                            ),
+                          ),
+                        ),
+                      ),
+                    ),
+                  ),
+                ),
+              ),
+            ),
+          ),
+        ),
+      ),
+    )
 
     stored-is-clean : storeAll due s blankSite ≡ clean s
     unfolding storeAll store value clean

@@ -2,11 +2,11 @@
 use mathlib.Core.Path.{_≡_, refl, sym, ap, _∙_}
 use mathlib.Core.Bool.{Bool, true, false}
 use mathlib.Core.List.{List, [], _++_, append-nil}
-use Prim.Native.Nat.{ℕ, _+_, _-_, _≤_, _<_}
+use Prim.Native.Nat.{ℕ, _+_, _-_, _≤_}
 use native.Mathlib.Omega.{arith}
 use lib.Dec.{eqb}
-use lib.ListN.{length, getD, take, drop}
-use lib.Seq.{take-all, take-at}
+use lib.ListN.{length, getD, take}
+use lib.Seq.{take-all}
 use borrow.Author.Tests.{eqb-true, eq-eqb, ne-eqb, le-ltb}
 use Rattle.site.specs.declared.Site.{Site}
 use Rattle.site.specs.declared.Rule.the-variants.{NoBytes, TooMany}
@@ -79,9 +79,9 @@ alone-accepted : (o : Outcome) (y : Site) (next n : ℕ) (s : Site) → alone o 
 unfolding alone
 alone-accepted Accepted y next n s e = by-test (eqb next n) refl e
   where
-  by-test : (b : Bool) → eqb next n ≡ b → pick b (accepted y) (refusedAt TooMany next) ≡ accepted s → Only Accepted y next n s
-  by-test true h e = record { outcome = refl; site = accepted-same y s e; end = eqb-true next n h }
-  by-test false h e = absurd (not-refused TooMany next s e)
+    by-test : (b : Bool) → eqb next n ≡ b → pick b (accepted y) (refusedAt TooMany next) ≡ accepted s → Only Accepted y next n s
+    by-test true h e = record { outcome = refl; site = accepted-same y s e; end = eqb-true next n h }
+    by-test false h e = absurd (not-refused TooMany next s e)
 alone-accepted (Refused r i) y next n s e = absurd (not-refused r i s e)
 
 module _ (s : Site) (f : List ℕ) (e : readRecord f ≡ accepted s) where

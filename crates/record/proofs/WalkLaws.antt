@@ -1,7 +1,7 @@
 -- Laws of the walk over the fields of a record.
-use mathlib.Core.Path.{_≡_, sym, ap, _∙_}
-use mathlib.Core.Bool.{Bool, true, false}
-use mathlib.Core.List.{List, [], _∷_, _++_}
+use mathlib.Core.Path.{_≡_}
+use mathlib.Core.Bool.{true}
+use mathlib.Core.List.{List, _++_}
 use Prim.Native.Nat.{ℕ, _+_, _-_, _≤_, _<_}
 use native.Mathlib.Nat.{add-sub-cancel-left}
 use native.Mathlib.Numerals.{add-one}
@@ -18,7 +18,7 @@ use Rattle.site.specs.declared.Checked.the-variants.{Passed, Broken}
 use Rattle.site.specs.Choice.{pick}
 use Rattle.site.specs.Values.{due, lengthPermitted, valueRule}
 use Rattle.site.proofs.Passing.{pass-else, pass-then}
-use Rattle.record.specs.Bytes.{statedLen, valueAt, fieldOf}
+use Rattle.record.specs.Bytes.{statedLen, fieldOf}
 use Rattle.record.specs.Field.{store}
 use Rattle.record.specs.Reader.{headRule, walk, unless, fieldSite, refusedAt, accepted}
 use Rattle.record.proofs.FieldBytes.{stated, field-length, field-tag}

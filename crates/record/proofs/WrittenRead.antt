@@ -1,15 +1,14 @@
 -- An accepted record is written again byte for byte.
-use mathlib.Core.Path.{_≡_, refl, sym, ap, _∙_, subst}
+use mathlib.Core.Path.{_≡_, refl, sym, subst}
 use mathlib.Core.Bool.{true}
 use mathlib.Core.List.{List, [], _∷_, _++_}
-use Prim.Native.Nat.{ℕ, _+_, _*_, _/_, _%_, _≤_, _<_}
+use Prim.Native.Nat.{ℕ, _+_, _*_, _/_, _%_}
 use native.Mathlib.Omega.{arith}
-use lib.ListN.{length, getD, take, drop, length-take, length-drop, take-append-drop}
-use lib.Seq.{getD-drop, drop-drop}
+use lib.ListN.{length, getD, take}
 use Rattle.site.specs.declared.Site.{Site}
 use Rattle.site.specs.Values.{due, lengthPermitted}
 use Rattle.site.proofs.LengthLaws.{permitted-parts, one-item}
-use Rattle.record.specs.Bytes.{wordAt, wordBytes, fieldOf, statedLen, valueAt, restAt, table, entryAt, entriesBytes}
+use Rattle.record.specs.Bytes.{wordAt, wordBytes, valueAt, restAt, table, entryAt, entriesBytes}
 use Rattle.record.specs.Field.{blankSite, store, value}
 use Rattle.record.specs.Reader.{walk, fieldSite, accepted}
 use Rattle.record.specs.RoundTrip.{Bytes}
@@ -17,7 +16,6 @@ use Rattle.record.specs.Writer.{encodeFields}
 use Rattle.record.proofs.TableLaws.{table-getD, take-table}
 use Rattle.record.proofs.EntryLaws.{no-length, entries-back}
 use Rattle.record.proofs.FieldBytes.{field-whole, value-bytes, rest-bytes}
-use Rattle.record.proofs.WalkLaws.{HeadOk}
 use Rattle.record.proofs.Parsed.{Parsed, parse, value-permitted}
 
 -- the values of s are those of the fields bs
@@ -89,23 +87,52 @@ agrees s bs b p =
     let f13 = f12 .2 in
     let f14 = f13 .2 in
     let f15 = f14 .2 in
-    subst (λ (y : Site). Agrees due bs y) (p .2 .2 .2 .2 .2 .2 .2 .2 .2 .2 .2 .2 .2 .2 .2 .0)
-    ( name-kept _ (f1 .0)
-    , ( byte-kept _ (one-item 2 _ refl (f2 .0))
-    , ( bytes-kept _ (one-item 3 _ refl (f3 .0))
-    , ( byte-kept _ (one-item 4 _ refl (f4 .0))
-    , ( byte-kept _ (one-item 5 _ refl (f5 .0))
-    , ( word-kept _ (one-item 6 _ refl (f6 .0)) (f6 .1)
-    , ( stand-kept _ (f7 .0) (f7 .1)
-    , ( word-kept _ (one-item 8 _ refl (f8 .0)) (f8 .1)
-    , ( byte-kept _ (one-item 9 _ refl (f9 .0))
-    , ( word-kept _ (one-item 10 _ refl (f10 .0)) (f10 .1)
-    , ( word-kept _ (one-item 11 _ refl (f11 .0)) (f11 .1)
-    , ( word-kept _ (one-item 12 _ refl (f12 .0)) (f12 .1)
-    , ( word-kept _ (one-item 13 _ refl (f13 .0)) (f13 .1)
-    , ( word-kept _ (one-item 14 _ refl (f14 .0)) (f14 .1)
-    , ( words-kept _ (one-item 15 _ refl (f15 .0)) (f15 .1)
-    , tt ) ) ) ) ) ) ) ) ) ) ) ) ) ) )
+    subst (λ (y : Site). Agrees due bs y) (p .2 .2 .2 .2 .2 .2 .2 .2 .2 .2 .2 .2 .2 .2 .2 .0) (
+      name-kept _ (f1 .0),
+      (
+        byte-kept _ (one-item 2 _ refl (f2 .0)),
+        (
+          bytes-kept _ (one-item 3 _ refl (f3 .0)),
+          (
+            byte-kept _ (one-item 4 _ refl (f4 .0)),
+            (
+              byte-kept _ (one-item 5 _ refl (f5 .0)),
+              (
+                word-kept _ (one-item 6 _ refl (f6 .0)) (f6 .1),
+                (
+                  stand-kept _ (f7 .0) (f7 .1),
+                  (
+                    word-kept _ (one-item 8 _ refl (f8 .0)) (f8 .1),
+                    (
+                      byte-kept _ (one-item 9 _ refl (f9 .0)),
+                      (
+                        word-kept _ (one-item 10 _ refl (f10 .0)) (f10 .1),
+                        (
+                          word-kept _ (one-item 11 _ refl (f11 .0)) (f11 .1),
+                          (
+                            word-kept _ (one-item 12 _ refl (f12 .0)) (f12 .1),
+                            (
+                              word-kept _ (one-item 13 _ refl (f13 .0)) (f13 .1),
+                              (
+                                word-kept _ (one-item 14 _ refl (f14 .0)) (f14 .1),
+                                (
+                                  words-kept _ (one-item 15 _ refl (f15 .0)) (f15 .1),
+                                  tt,
+                                ),
+                              ),
+                            ),
+                          ),
+                        ),
+                      ),
+                    ),
+                  ),
+                ),
+              ),
+            ),
+          ),
+        ),
+      ),
+    )
 
 pub encode-read : (s : Site) (bs : List ℕ) (at : ℕ) → Bytes bs → walk due blankSite bs at ≡ accepted s → encodeFields due s ≡ bs
 encode-read s bs at b e =

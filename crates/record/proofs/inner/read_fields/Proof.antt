@@ -1,42 +1,17 @@
-use mathlib.Core.Path.{_≡_, refl, sym, ap, _∙_}
-use mathlib.Core.List.{List, [], _∷_, _++_}
-use Prim.Native.Nat.{ℕ, _+_, _*_, _-_, _/_, _%_, _≤_, _<_}
-use native.Mathlib.Numerals.{add-one}
+use mathlib.Core.Path.{_≡_, refl, sym, _∙_}
+use Prim.Native.Nat.{_+_, _-_, _≤_}
 use native.Mathlib.Omega.{arith}
-use lib.Dec.{leb, ltb, eqb}
-use lib.ListN.{length, getD, take, drop, length-take, length-drop, length-set, List·getD-eq-default}
-use lib.Seq.{paste, paste-zero, paste-suc}
+use lib.ListN.{length, getD, drop, length-take, length-drop}
 use denote.Ref.{now}
 use borrow.Author.Needs.{needs}
-use borrow.Author.Tests.{lt-ltb, le-ltb, lt-leb, le-leb, eq-eqb, ne-eqb}
-use Rattle.site.specs.declared.Checked.the-variants.{Passed, Broken}
-use Rattle.site.specs.Check.{siteRule}
-use Rattle.site.specs.Refusal.{andThen}
-use Rattle.site.specs.Values.{due, lengthPermitted, itemCount, countRule}
-use Rattle.site.proofs.FieldLaws.{site-passed}
-use Rattle.site.proofs.LengthLaws.{permitted-parts, count-parts, no-tag-permitted, no-tag-counted}
-use Rattle.site.proofs.MatchLaws.{none-below}
-use Rattle.record.specs.Bytes.{wordOf, wordAt, statedLen, table, entryAt, entriesBytes, fieldOf}
-use Rattle.record.specs.Field.{blankSite, store, value}
-use Rattle.record.specs.Reader.{refusedAt, accepted, headRule, walk}
-use Rattle.record.specs.Outer.{outcomeNumbers, outerRule, nextOf, found, recordAt, readRecord}
-use Rattle.record.specs.Writer.{encodeFields, encode, writeRule, answerOf, bufferOf, put, Holds}
-use Rattle.record.proofs.WalkLaws.{HeadOk, head-passed, part-permitted, walk-head, walk-value, walk-next, walk-done, walk-more, rest-all}
-use Rattle.record.proofs.OuterLaws.{OuterOk, outer-passed, record-past, record-broken, record-walked, read-none, read-refused, read-alone, read-more}
-use Rattle.record.proofs.PutLaws.{put-nil, put-three, paste-put, field-put}
-use Rattle.record.proofs.ValueLaws.{nameBytes, name-value, stand-value, unmapped}
-use Rattle.record.proofs.EncodeLaws.{next-room, put-next, length-encode, encode-put, record-length}
-use Rattle.record.proofs.EntryLaws.{length-entries}
+use Rattle.site.specs.declared.Checked.the-variants.{Passed}
+use Rattle.site.specs.Values.{due}
+use Rattle.record.specs.Bytes.{statedLen}
+use Rattle.record.specs.Field.{blankSite}
+use Rattle.record.specs.Reader.{accepted, headRule, walk}
+use Rattle.record.proofs.WalkLaws.{HeadOk, head-passed, part-permitted, walk-head, walk-value, walk-next, walk-done, walk-more}
 use Rattle.record.proofs.inner.read_fields.Statement.{statement}
 use Rattle.record.proofs.inner.read_fields.Tie as tie
-use Rattle.record.proofs.inner.read_fields.Reads as reads
-use Rattle.record.proofs.inner.read_fields.Lts as lts
-use Rattle.record.proofs.blank.blank.Reads as blank-reads
-use Rattle.record.proofs.blank.refused.Reads as refused-reads
-use Rattle.record.proofs.bytes.stated_len.Reads as stated-len-reads
-use Rattle.record.proofs.inner.head_rule.Reads as head-rule-reads
-use Rattle.record.proofs.store.store_field.Reads as store-field-reads
-use Rattle.site.proofs.field_rule.Reads as field-rule-reads
 
 abbrev Inv-loop : tie.InvT-loop
 Inv-loop part base site₀ rest₀ at₀ k₀ site rest at k = (k ≤ 15) × (at + length rest ≡ base + length part) × (walk due blankSite part base ≡ walk (drop k due) site rest at)
@@ -53,31 +28,24 @@ ok c = head-passed _ _ (head-is c)
 end-is : (c : tie.After-stated-len Inv-loop μ-loop) → 3 + c .stated-len .result ≡ 3 + statedLen (c .before .before .before .before .before .loop .rest .now)
 end-is c = omega arith
 
--- src/inner.rt:50:9
 blank-requires : tie.Need-blank-requires Inv-loop μ-loop
 blank-requires c κs = search needs
 
--- src/inner.rt:54:5
 loop-holds : tie.Need-loop-holds Inv-loop μ-loop
 loop-holds c = (search needs, refl, rw (c .blank .ensures))
 
--- src/inner.rt:55:19
 array-read-tag : tie.Need-array-read-tag Inv-loop μ-loop
 array-read-tag c = search needs
 
--- src/inner.rt:56:15
 head-rule-requires : tie.Need-head-rule-requires Inv-loop μ-loop
 head-rule-requires c κs = search needs
 
--- src/inner.rt:57:29
 enum-known-rule : tie.Need-enum-known-rule Inv-loop μ-loop
 enum-known-rule c = search needs
 
--- src/inner.rt:58:17
 refused-requires : tie.Need-refused-requires Inv-loop μ-loop
 refused-requires c κs = search needs
 
--- src/inner.rt:58:17
 returns : tie.Need-returns Inv-loop μ-loop
 returns c =
     let h = c .before .before .before .before in
@@ -86,43 +54,33 @@ returns c =
 enum-told : tie.Need-enum-told Inv-loop μ-loop
 enum-told c = search needs
 
--- src/inner.rt:62:23
 stated-len-requires : tie.Need-stated-len-requires Inv-loop μ-loop
 stated-len-requires c κs = search needs
 
--- src/inner.rt:62:19
 add-end : tie.Need-add-end Inv-loop μ-loop
 add-end c = search needs
 
--- src/inner.rt:63:39
 sub-store-field : tie.Need-sub-store-field Inv-loop μ-loop
 sub-store-field c = search needs
 
--- src/inner.rt:63:39
 part-store-field-start : tie.Need-part-store-field-start Inv-loop μ-loop
 part-store-field-start c = search needs
 
--- src/inner.rt:63:39
 part-store-field-end : tie.Need-part-store-field-end Inv-loop μ-loop
 part-store-field-end c = omega (arith, ok (c .before) .inside)
 
--- src/inner.rt:63:9
 store-field-requires : tie.Need-store-field-requires Inv-loop μ-loop
 store-field-requires c κs = part-permitted _ _ _ (ok (c .before .before)) (end-is (c .before))
 
--- src/inner.rt:64:15
 field-rule-requires : tie.Need-field-rule-requires Inv-loop μ-loop
 field-rule-requires c κs = search needs
 
--- src/inner.rt:65:29
 enum-known-rule-2 : tie.Need-enum-known-rule-2 Inv-loop μ-loop
 enum-known-rule-2 c = search needs
 
--- src/inner.rt:66:17
 refused-requires-2 : tie.Need-refused-requires-2 Inv-loop μ-loop
 refused-requires-2 c κs = search needs
 
--- src/inner.rt:66:17
 returns-2 : tie.Need-returns-2 Inv-loop μ-loop
 returns-2 c =
     let f = c .before .before .before .before in
@@ -135,50 +93,42 @@ returns-2 c =
 enum-told-2 : tie.Need-enum-told-2 Inv-loop μ-loop
 enum-told-2 c = search needs
 
--- src/inner.rt:70:16
 sub-rest : tie.Need-sub-rest Inv-loop μ-loop
 sub-rest c = omega (arith, ok (c .before .before .before .before .before .before) .inside)
 
--- src/inner.rt:70:16
 part-rest-start : tie.Need-part-rest-start Inv-loop μ-loop
 part-rest-start c = omega (arith, ok (c .before .before .before .before .before .before) .inside)
 
--- src/inner.rt:70:16
 part-rest-end : tie.Need-part-rest-end Inv-loop μ-loop
 part-rest-end c = search needs
 
--- src/inner.rt:71:14
 add-at : tie.Need-add-at Inv-loop μ-loop
 add-at c = omega (arith, ok (c .before .before .before .before .before .before .before) .inside)
 
--- src/inner.rt:72:13
 add-k : tie.Need-add-k Inv-loop μ-loop
 add-k c = search needs
 
--- src/inner.rt:54:5
 loop-less : tie.Need-loop-less Inv-loop μ-loop
 loop-less c = search needs
 
--- src/inner.rt:54:5
 loop-again : tie.Need-loop-again Inv-loop μ-loop
 loop-again c =
     let f = c .before .before .before in
     let e = f .before .before .before .before in
-    let h = e .before .before in
-    (search needs, simp (length-take, length-drop) (omega (arith, ok e .inside)),
-    h .before .before .loop .inv .2
-    ∙ walk-next due _ (h .before .loop-test .taken) _ _ _ (head-is e) _ _ (end-is (f .before .before .before)) (f .before .store-field .ensures) (sym (f .field-rule .ensures .0) ∙ c .before .enum-told2 .given .1))
+    let h = e .before .before in (
+      search needs,
+      simp (length-take, length-drop) (omega (arith, ok e .inside)),
+      h .before .before .loop .inv .2
+          ∙ walk-next due _ (h .before .loop-test .taken) _ _ _ (head-is e) _ _ (end-is (f .before .before .before)) (f .before .store-field .ensures) (sym (f .field-rule .ensures .0) ∙ c .before .enum-told2 .given .1),
+    )
 
--- src/inner.rt:76:9
 returns-3 : tie.Need-returns-3 Inv-loop μ-loop
 unfolding accepted
 returns-3 c = sym (c .before .before .loop .inv .2 ∙ walk-done _ _ _ _ (c .before .loop-test .left) (c .before .before .loop .inv .0) (c .if1 .taken))
 
--- src/inner.rt:78:5
 refused-requires-3 : tie.Need-refused-requires-3 Inv-loop μ-loop
 refused-requires-3 c κs = search needs
 
--- src/inner.rt:46:1
 returns-4 : tie.Need-returns-4 Inv-loop μ-loop
 returns-4 c = c .refused3 .ensures ∙ sym (c .before .before .before .loop .inv .2 ∙ walk-more _ _ _ _ (c .before .before .loop-test .left) (c .before .before .before .loop .inv .0) (c .before .if1 .left))
 

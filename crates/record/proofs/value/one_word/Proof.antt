@@ -1,54 +1,17 @@
-use mathlib.Core.Path.{_≡_, refl, sym, ap, _∙_}
-use mathlib.Core.List.{List, [], _∷_, _++_}
-use Prim.Native.Nat.{ℕ, _+_, _*_, _-_, _/_, _%_, _≤_, _<_}
-use native.Mathlib.Numerals.{add-one}
-use native.Mathlib.Omega.{arith}
-use lib.Dec.{leb, ltb, eqb}
-use lib.ListN.{length, getD, take, drop, length-take, length-drop, length-set, List·getD-eq-default}
-use lib.Seq.{paste, paste-zero, paste-suc}
-use denote.Ref.{now}
-use borrow.Author.Needs.{needs}
-use borrow.Author.Tests.{lt-ltb, le-ltb, lt-leb, le-leb, eq-eqb, ne-eqb}
-use Rattle.site.specs.declared.Checked.the-variants.{Passed, Broken}
-use Rattle.site.specs.Check.{siteRule}
-use Rattle.site.specs.Refusal.{andThen}
-use Rattle.site.specs.Values.{due, lengthPermitted, itemCount, countRule}
-use Rattle.site.proofs.FieldLaws.{site-passed}
-use Rattle.site.proofs.LengthLaws.{permitted-parts, count-parts, no-tag-permitted, no-tag-counted}
-use Rattle.site.proofs.MatchLaws.{none-below}
-use Rattle.record.specs.Bytes.{wordOf, wordAt, statedLen, table, entryAt, entriesBytes, fieldOf}
-use Rattle.record.specs.Field.{blankSite, store, value}
-use Rattle.record.specs.Reader.{refusedAt, accepted, headRule, walk}
-use Rattle.record.specs.Outer.{outcomeNumbers, outerRule, nextOf, found, recordAt, readRecord}
-use Rattle.record.specs.Writer.{encodeFields, encode, writeRule, answerOf, bufferOf, put, Holds}
-use Rattle.record.proofs.WalkLaws.{HeadOk, head-passed, part-permitted, walk-head, walk-value, walk-next, walk-done, walk-more, rest-all}
-use Rattle.record.proofs.OuterLaws.{OuterOk, outer-passed, record-past, record-broken, record-walked, read-none, read-refused, read-alone, read-more}
-use Rattle.record.proofs.PutLaws.{put-nil, put-three, paste-put, field-put}
-use Rattle.record.proofs.ValueLaws.{nameBytes, name-value, stand-value, unmapped}
-use Rattle.record.proofs.EncodeLaws.{next-room, put-next, length-encode, encode-put, record-length}
-use Rattle.record.proofs.EntryLaws.{length-entries}
+use mathlib.Core.Path.{sym}
 use borrow.Author.Needs.{needs}
 use Rattle.record.proofs.value.one_word.Statement.{statement}
 use Rattle.record.proofs.value.one_word.Tie as tie
-use Rattle.record.proofs.value.one_word.Reads as reads
-use Rattle.record.proofs.value.one_word.Lts as lts
-use Rattle.record.proofs.bytes.hi.Reads as hi-reads
-use Rattle.record.proofs.bytes.lo.Reads as lo-reads
-use Rattle.record.proofs.value.two_bytes.Reads as two-bytes-reads
 
--- src/value.rt:104:15
 hi-requires : tie.Need-hi-requires
 hi-requires c κs = search needs
 
--- src/value.rt:104:22
 lo-requires : tie.Need-lo-requires
 lo-requires c κs = search needs
 
--- src/value.rt:104:5
 two-bytes-requires : tie.Need-two-bytes-requires
 two-bytes-requires c κs = search needs
 
--- src/value.rt:101:1
 returns : tie.Need-returns
 returns c = rw (sym (c .before .before .hi .ensures), sym (c .before .lo .ensures)) (c .two-bytes .ensures)
 

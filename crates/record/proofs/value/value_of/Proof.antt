@@ -1,190 +1,128 @@
-use mathlib.Core.Path.{_≡_, refl, sym, ap, _∙_}
-use mathlib.Core.List.{List, [], _∷_, _++_}
-use Prim.Native.Nat.{ℕ, _+_, _*_, _-_, _/_, _%_, _≤_, _<_}
-use native.Mathlib.Numerals.{add-one}
-use native.Mathlib.Omega.{arith}
-use lib.Dec.{leb, ltb, eqb}
-use lib.ListN.{length, getD, take, drop, length-take, length-drop, length-set, List·getD-eq-default}
-use lib.Seq.{paste, paste-zero, paste-suc}
-use denote.Ref.{now}
+use mathlib.Core.Path.{_≡_}
 use borrow.Author.Needs.{needs}
-use borrow.Author.Tests.{lt-ltb, le-ltb, lt-leb, le-leb, eq-eqb, ne-eqb}
-use Rattle.site.specs.declared.Checked.the-variants.{Passed, Broken}
-use Rattle.site.specs.Check.{siteRule}
-use Rattle.site.specs.Refusal.{andThen}
-use Rattle.site.specs.Values.{due, lengthPermitted, itemCount, countRule}
-use Rattle.site.proofs.FieldLaws.{site-passed}
-use Rattle.site.proofs.LengthLaws.{permitted-parts, count-parts, no-tag-permitted, no-tag-counted}
+use Rattle.site.specs.declared.Checked.the-variants.{Passed}
+use Rattle.site.specs.Values.{itemCount, countRule}
+use Rattle.site.proofs.LengthLaws.{count-parts, no-tag-counted}
 use Rattle.site.proofs.MatchLaws.{none-below}
-use Rattle.record.specs.Bytes.{wordOf, wordAt, statedLen, table, entryAt, entriesBytes, fieldOf}
-use Rattle.record.specs.Field.{blankSite, store, value}
-use Rattle.record.specs.Reader.{refusedAt, accepted, headRule, walk}
-use Rattle.record.specs.Outer.{outcomeNumbers, outerRule, nextOf, found, recordAt, readRecord}
-use Rattle.record.specs.Writer.{encodeFields, encode, writeRule, answerOf, bufferOf, put, Holds}
-use Rattle.record.proofs.WalkLaws.{HeadOk, head-passed, part-permitted, walk-head, walk-value, walk-next, walk-done, walk-more, rest-all}
-use Rattle.record.proofs.OuterLaws.{OuterOk, outer-passed, record-past, record-broken, record-walked, read-none, read-refused, read-alone, read-more}
-use Rattle.record.proofs.PutLaws.{put-nil, put-three, paste-put, field-put}
-use Rattle.record.proofs.ValueLaws.{nameBytes, name-value, stand-value, unmapped}
-use Rattle.record.proofs.EncodeLaws.{next-room, put-next, length-encode, encode-put, record-length}
-use Rattle.record.proofs.EntryLaws.{length-entries}
-use borrow.Author.Needs.{needs}
+use Rattle.record.specs.Field.{value}
+use Rattle.record.proofs.ValueLaws.{name-value, stand-value}
 use Rattle.record.proofs.value.value_of.Statement.{statement}
 use Rattle.record.proofs.value.value_of.Tie as tie
-use Rattle.record.proofs.value.value_of.Reads as reads
-use Rattle.record.proofs.value.value_of.Lts as lts
-use Rattle.record.proofs.value.name_value.Reads as name-value-reads
-use Rattle.record.proofs.value.one_byte.Reads as one-byte-reads
-use Rattle.record.proofs.value.one_word.Reads as one-word-reads
-use Rattle.record.proofs.value.stand_value.Reads as stand-value-reads
-use Rattle.record.proofs.value.two_bytes.Reads as two-bytes-reads
-use Rattle.record.proofs.value.two_words.Reads as two-words-reads
 
--- src/value.rt:125:13
 name-value-requires : tie.Need-name-value-requires
 unfolding itemCount
 name-value-requires c κs =
     let p : countRule 1 (c .before .before .args .site) ≡ Passed = rw (c .before .match .keys1) at (c .before .before .pre) in
     count-parts 1 _ p .1
 
--- src/value.rt:127:14
 one-byte-requires : tie.Need-one-byte-requires
 one-byte-requires c κs = search needs
 
--- src/value.rt:128:14
 two-bytes-requires : tie.Need-two-bytes-requires
 two-bytes-requires c κs = search needs
 
--- src/value.rt:129:14
 one-byte-requires-2 : tie.Need-one-byte-requires-2
 one-byte-requires-2 c κs = search needs
 
--- src/value.rt:130:14
 one-byte-requires-3 : tie.Need-one-byte-requires-3
 one-byte-requires-3 c κs = search needs
 
--- src/value.rt:131:14
 one-word-requires : tie.Need-one-word-requires
 one-word-requires c κs = search needs
 
--- src/value.rt:134:13
 stand-value-requires : tie.Need-stand-value-requires
 unfolding itemCount
 stand-value-requires c κs =
     let p : countRule 7 (c .before .before .args .site) ≡ Passed = rw (c .before .match .keys7) at (c .before .before .pre) in
     count-parts 7 _ p .1
 
--- src/value.rt:136:14
 one-word-requires-2 : tie.Need-one-word-requires-2
 one-word-requires-2 c κs = search needs
 
--- src/value.rt:137:14
 one-byte-requires-4 : tie.Need-one-byte-requires-4
 one-byte-requires-4 c κs = search needs
 
--- src/value.rt:138:15
 one-word-requires-3 : tie.Need-one-word-requires-3
 one-word-requires-3 c κs = search needs
 
--- src/value.rt:139:15
 one-word-requires-4 : tie.Need-one-word-requires-4
 one-word-requires-4 c κs = search needs
 
--- src/value.rt:140:15
 one-word-requires-5 : tie.Need-one-word-requires-5
 one-word-requires-5 c κs = search needs
 
--- src/value.rt:141:15
 one-word-requires-6 : tie.Need-one-word-requires-6
 one-word-requires-6 c κs = search needs
 
--- src/value.rt:142:15
 one-word-requires-7 : tie.Need-one-word-requires-7
 one-word-requires-7 c κs = search needs
 
--- src/value.rt:143:15
 two-words-requires : tie.Need-two-words-requires
 two-words-requires c κs = search needs
 
--- src/value.rt:145:14
 one-byte-requires-5 : tie.Need-one-byte-requires-5
 one-byte-requires-5 c κs = search needs
 
--- src/value.rt:118:1
 returns : tie.Need-returns
 unfolding value
 returns c = rw (c .before .before .match .keys1) (c .name-value .ensures)
 
--- src/value.rt:118:1
 returns-2 : tie.Need-returns-2
 unfolding value
 returns-2 c = rw (c .before .match .keys2) (c .one-byte .ensures)
 
--- src/value.rt:118:1
 returns-3 : tie.Need-returns-3
 unfolding value
 returns-3 c = rw (c .before .match .keys3) (c .two-bytes .ensures)
 
--- src/value.rt:118:1
 returns-4 : tie.Need-returns-4
 unfolding value
 returns-4 c = rw (c .before .match .keys4) (c .one-byte2 .ensures)
 
--- src/value.rt:118:1
 returns-5 : tie.Need-returns-5
 unfolding value
 returns-5 c = rw (c .before .match .keys5) (c .one-byte3 .ensures)
 
--- src/value.rt:118:1
 returns-6 : tie.Need-returns-6
 unfolding value
 returns-6 c = rw (c .before .match .keys6) (c .one-word .ensures)
 
--- src/value.rt:118:1
 returns-7 : tie.Need-returns-7
 unfolding value
 returns-7 c = rw (c .before .before .match .keys7) (c .stand-value .ensures)
 
--- src/value.rt:118:1
 returns-8 : tie.Need-returns-8
 unfolding value
 returns-8 c = rw (c .before .match .keys8) (c .one-word2 .ensures)
 
--- src/value.rt:118:1
 returns-9 : tie.Need-returns-9
 unfolding value
 returns-9 c = rw (c .before .match .keys9) (c .one-byte4 .ensures)
 
--- src/value.rt:118:1
 returns-10 : tie.Need-returns-10
 unfolding value
 returns-10 c = rw (c .before .match .keys10) (c .one-word3 .ensures)
 
--- src/value.rt:118:1
 returns-11 : tie.Need-returns-11
 unfolding value
 returns-11 c = rw (c .before .match .keys11) (c .one-word4 .ensures)
 
--- src/value.rt:118:1
 returns-12 : tie.Need-returns-12
 unfolding value
 returns-12 c = rw (c .before .match .keys12) (c .one-word5 .ensures)
 
--- src/value.rt:118:1
 returns-13 : tie.Need-returns-13
 unfolding value
 returns-13 c = rw (c .before .match .keys13) (c .one-word6 .ensures)
 
--- src/value.rt:118:1
 returns-14 : tie.Need-returns-14
 unfolding value
 returns-14 c = rw (c .before .match .keys14) (c .one-word7 .ensures)
 
--- src/value.rt:118:1
 returns-15 : tie.Need-returns-15
 unfolding value
 returns-15 c = rw (c .before .match .keys15) (c .two-words .ensures)
 
--- src/value.rt:118:1
 returns-16 : tie.Need-returns-16
 returns-16 c = absurd (no-tag-counted _ _ (none-below 15 (c .before .before .args .tag) (c .before .match .rest)) (c .before .before .pre))
 
