@@ -1,15 +1,15 @@
 -- Laws of the outer field, and of the file of at most one record.
-use mathlib.Core.Path.{_≡_, sym, ap}
+use mathlib.Core.Path.{_≡_, ap}
 use mathlib.Core.List.{List, []}
 use Prim.Native.Nat.{ℕ, _+_, _-_, _≤_, _<_}
 use native.Mathlib.Nat.{add-sub-cancel-left}
 use native.Mathlib.Omega.{arith}
 use lib.Dec.{ltb, eqb}
-use lib.ListN.{length, getD, take, drop, length-take, length-drop, drop-of-length-le}
+use lib.ListN.{length, getD, take, drop, length-drop, drop-of-length-le}
 use lib.Seq.{drop-drop}
 use borrow.Author.Tests.{eqb-true, ltb-false, ne-eqb, eq-eqb}
 use Rattle.site.specs.declared.Rule.{Rule}
-use Rattle.site.specs.declared.Rule.the-variants.{NoBytes, OuterCut, OuterTag, TooMany}
+use Rattle.site.specs.declared.Rule.the-variants.{NoBytes, OuterCut, OuterTag}
 use Rattle.site.specs.declared.Checked.{Checked}
 use Rattle.site.specs.declared.Checked.the-variants.{Passed, Broken}
 use Rattle.site.specs.Choice.{pick}
@@ -17,12 +17,10 @@ use Rattle.site.specs.Values.{due}
 use Rattle.site.proofs.Passing.{pass-else, pass-then}
 use Rattle.record.specs.declared.Read.{Read}
 use Rattle.record.specs.declared.Found.{Found}
-use Rattle.record.specs.declared.Outcome.the-variants.{Accepted, Refused}
 use Rattle.record.specs.Bytes.{statedLen}
 use Rattle.record.specs.Field.{blankSite}
-use Rattle.record.specs.Reader.{walk, unless, refusedAt, accepted}
-use Rattle.record.specs.Outer.{outcomeNumbers, outerRule, nextOf, found, recordIn, recordAt, alone, onlyOne, readRecord}
-use Rattle.record.proofs.WalkLaws.{rest-all}
+use Rattle.record.specs.Reader.{walk, unless, refusedAt}
+use Rattle.record.specs.Outer.{outcomeNumbers, outerRule, nextOf, found, recordIn, recordAt, onlyOne, readRecord}
 
 -- what an outer field that passed says
 pub record OuterOk (bs : List ℕ) : Type 0 where
@@ -49,51 +47,34 @@ outer-passed bs e =
 pub found-numbers : (x y : Found) → x ≡ y → (x ≡ y) × (outcomeNumbers (x .outcome) ≡ outcomeNumbers (y .outcome))
 found-numbers x y e = (e, ap (λ (z : Found). outcomeNumbers (z .outcome)) e)
 
--- ---- the record x of f at offset `at`, as the code makes it: from the slice of f that starts there
+-- ---- the record x of f at offset `at`, as the code makes it
 
 module _ (f : List ℕ) (at : ℕ) where
-  abbrev front : List ℕ
-  front = take (length f - at) (drop at f)
+  pub outer-past : length f < at → outerRule (drop at f) ≡ Broken OuterCut
+  unfolding outerRule
+  outer-past h = let e : drop at f ≡ [] = drop-of-length-le f {i = at} (omega arith) in rw e
 
-  pub outer-inside : outerRule front ≡ Passed → at + 3 + statedLen front ≤ length f
+  pub outer-inside : outerRule (drop at f) ≡ Passed → at + 3 + statedLen (drop at f) ≤ length f
   outer-inside e =
-      let o = outer-passed front e in
-      let l : length front ≡ length f - at = simp (length-take, length-drop) (omega arith) in
-      omega (arith, o .inside)
+      let o = outer-passed (drop at f) e in
+      omega (arith, o .inside, o .room, length-drop at f)
 
   module _ (r : Read) (x : Found) where
-    pub record-past : length f < at → (end : ℕ) → r ≡ refusedAt OuterCut at → x ≡ found r at end → x ≡ recordAt f at
-    unfolding recordAt recordIn outerRule unless found refusedAt nextOf
-    record-past h end is made = let e : drop at f ≡ [] = drop-of-length-le f {i = at} (omega arith) in rw (made, is, e)
-
-    pub record-broken : (k : Rule) → outerRule front ≡ Broken k → (end : ℕ) → r ≡ refusedAt k at → x ≡ found r at end → x ≡ recordAt f at
+    pub record-broken : (k : Rule) → outerRule (drop at f) ≡ Broken k → (end : ℕ) → r ≡ refusedAt k at → x ≡ found r at end → x ≡ recordAt f at
     unfolding recordAt recordIn unless found refusedAt nextOf
-    record-broken k e end is made = let q : outerRule (drop at f) ≡ Broken k = rw rest-all at e in rw (made, is, q)
+    record-broken k e end is made = rw (made, is, e)
 
-    pub record-walked : outerRule front ≡ Passed → (n : ℕ) → n ≡ statedLen front
+    pub record-walked : outerRule (drop at f) ≡ Passed → (n : ℕ) → n ≡ statedLen (drop at f)
         → r ≡ walk due blankSite (take (at + 3 + n - (at + 3)) (drop (at + 3) f)) (at + 3) → x ≡ found r at (at + 3 + n) → x ≡ recordAt f at
     unfolding recordAt recordIn unless
-    record-walked e n len is made =
-        let q : outerRule (drop at f) ≡ Passed = rw rest-all at e in
-        let l : n ≡ statedLen (drop at f) = rw rest-all at len in
-        rw (made, is, l, q, add-sub-cancel-left, drop-drop)
+    record-walked e n len is made = rw (made, is, len, e, add-sub-cancel-left, drop-drop)
 
 -- ---- the file of at most one record
 
-module _ (f : List ℕ) where
-  pub read-none : length f ≡ 0 → readRecord f ≡ refusedAt NoBytes 0
-  unfolding readRecord
-  read-none e = rw (eq-eqb _ _ e)
+pub read-none : (f : List ℕ) → length f ≡ 0 → readRecord f ≡ refusedAt NoBytes 0
+unfolding readRecord
+read-none f e = rw (eq-eqb _ _ e)
 
-  module _ (some : length f ≡ 0 → ⊥) (x : Found) (is : x ≡ recordAt f 0) where
-    pub read-refused : (r : Rule) (i : ℕ) → x .outcome ≡ Refused r i → readRecord f ≡ refusedAt r i
-    unfolding readRecord onlyOne alone
-    read-refused r i e = rw (ne-eqb _ _ some, sym is, e)
-
-    pub read-alone : x .outcome ≡ Accepted → x .next ≡ length f → readRecord f ≡ accepted (x .site)
-    unfolding readRecord onlyOne alone
-    read-alone e h = rw (ne-eqb _ _ some, sym is, e, eq-eqb _ _ h)
-
-    pub read-more : x .outcome ≡ Accepted → (x .next ≡ length f → ⊥) → readRecord f ≡ refusedAt TooMany (x .next)
-    unfolding readRecord onlyOne alone
-    read-more e h = rw (ne-eqb _ _ some, sym is, e, ne-eqb _ _ h)
+pub read-some : (f : List ℕ) → (length f ≡ 0 → ⊥) → (x : Found) (r : Read) → x ≡ recordAt f 0 → r ≡ onlyOne x (length f) → r ≡ readRecord f
+unfolding readRecord
+read-some f some x r is made = rw (made, is, ne-eqb _ _ some)

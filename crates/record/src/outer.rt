@@ -1,6 +1,7 @@
 // A record of a file, and the file of at most one record.
 ghost use mathlib.Core.Path.{_≡_};
-ghost use Rattle.record.specs.Outer.{outcomeNumbers, outerRule, found, recordAt, readRecord};
+ghost use lib.ListN.{drop};
+ghost use Rattle.record.specs.Outer.{outcomeNumbers, outerRule, found, recordAt, onlyOne, readRecord};
 ghost use Rattle.record.specs.Writer.{encode};
 use crate::Found;
 use crate::Outcome;
@@ -12,7 +13,7 @@ use site::Checked;
 use site::Rule;
 
 // Rules 2 and 3 at the bytes that are left.
-fn outer_rule(rest: &[u8]) -> Checked
+fn front_rule(rest: &[u8]) -> Checked
     ensures { λ r. ⌜ r ≡ outerRule (now (rest .entry)) ⌝ }
 {
     let left = rest.len();
@@ -31,6 +32,16 @@ fn outer_rule(rest: &[u8]) -> Checked
         return Checked::Passed;
     }
     Checked::Broken(Rule::OuterTag)
+}
+
+// The same at an offset, which may lie past the end.
+fn outer_rule(file: &[u8], at: usize) -> Checked
+    ensures { λ r. ⌜ r ≡ outerRule (drop at (now (file .entry))) ⌝ }
+{
+    if file.len() < at {
+        return Checked::Broken(Rule::OuterCut);
+    }
+    front_rule(&file[at..])
 }
 
 fn found_from(r: Read, at: usize, end: usize) -> Found
@@ -57,19 +68,31 @@ pub fn read_at(file: &[u8], at: usize) -> Found
     ensures answer { λ r. ⌜ r ≡ recordAt (now (file .entry)) at ⌝ }
     ensures numbers { λ r. ⌜ outcomeNumbers (r .outcome) ≡ outcomeNumbers (recordAt (now (file .entry)) at .outcome) ⌝ }
 {
-    if file.len() < at {
-        return found_from(refused(Rule::OuterCut, at), at, at);
-    }
-    let rest = &file[at..];
-    match outer_rule(rest) {
+    match outer_rule(file, at) {
         Checked::Broken(rule) => {
             return found_from(refused(rule, at), at, at);
         }
         Checked::Passed => {}
     }
     let start = at + 3;
-    let end = start + stated_len(rest);
+    let end = start + stated_len(&file[at..]);
     found_from(read_fields(&file[start..end], start), at, end)
+}
+
+fn only_one(x: Found, n: usize) -> Read
+    ensures { λ r. ⌜ r ≡ onlyOne x n ⌝ }
+{
+    let outcome = x.outcome;
+    let site = x.site;
+    match outcome {
+        Outcome::Refused { rule, at } => refused(rule, at),
+        Outcome::Accepted => {
+            if x.next == n {
+                return Read { outcome, site };
+            }
+            refused(Rule::TooMany, x.next)
+        }
+    }
 }
 
 // The single record of a file of at most one.
@@ -81,16 +104,5 @@ pub fn read_record(file: &[u8]) -> Read
     if file.len() == 0 {
         return refused(Rule::NoBytes, 0);
     }
-    let x = read_at(file, 0);
-    let outcome = x.outcome;
-    let site = x.site;
-    match outcome {
-        Outcome::Refused { rule, at } => refused(rule, at),
-        Outcome::Accepted => {
-            if x.next == file.len() {
-                return Read { outcome, site };
-            }
-            refused(Rule::TooMany, x.next)
-        }
-    }
+    only_one(read_at(file, 0), file.len())
 }
