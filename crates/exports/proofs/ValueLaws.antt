@@ -13,7 +13,8 @@ use Rattle.site.specs.declared.Checked.the-variants.{Passed, Broken}
 use Rattle.judgement.specs.declared.Verdict.{Verdict}
 use Rattle.judgement.specs.declared.Verdict.the-variants.{Within, Over}
 use Rattle.judgement.specs.Verdicts.{verdictNumbers}
-use Rattle.exports.specs.Results.{refusalCode, roomRule, codeIf, heldIf}
+use Rattle.record.specs.Writer.{bufferOf}
+use Rattle.exports.specs.Results.{refusalCode, roomRule, codeIf}
 use Rattle.exports.specs.Layout.{siteIn, valueCheck, markNumber, verdictMarked}
 use Rattle.exports.proofs.ResultLaws.{eight}
 
@@ -29,22 +30,22 @@ module _ (b : List ℕ) where
   -- a refusal of the value
   pub refused : (r : Rule) (needed : ℕ) (xs old : List ℕ) → valueCheck b ≡ Broken r
       → (refusalCode r 0 ≡ codeIf (andThen (valueCheck b) (roomRule needed (length old))) needed)
-      × (old ≡ heldIf (andThen (valueCheck b) (roomRule needed (length old))) xs old)
-  unfolding andThen codeIf heldIf
+      × (old ≡ bufferOf (andThen (valueCheck b) (roomRule needed (length old))) xs old)
+  unfolding andThen codeIf bufferOf
   refused r needed xs old e = rw e (refl, refl)
 
   -- a slice that is too short
   pub short : (needed : ℕ) (xs old : List ℕ) → valueCheck b ≡ Passed → length old < needed
       → (refusalCode BufferShort 0 ≡ codeIf (andThen (valueCheck b) (roomRule needed (length old))) needed)
-      × (old ≡ heldIf (andThen (valueCheck b) (roomRule needed (length old))) xs old)
-  unfolding andThen codeIf heldIf roomRule
+      × (old ≡ bufferOf (andThen (valueCheck b) (roomRule needed (length old))) xs old)
+  unfolding andThen codeIf bufferOf roomRule
   short needed xs old e h = rw (e, lt-leb needed (length old) h) (refl, refl)
 
   -- success
   pub written : (needed : ℕ) (xs old new : List ℕ) → valueCheck b ≡ Passed → needed ≤ length old → new ≡ xs ++ drop (length xs) old
       → (needed ≡ codeIf (andThen (valueCheck b) (roomRule needed (length old))) needed)
-      × (new ≡ heldIf (andThen (valueCheck b) (roomRule needed (length old))) xs old)
-  unfolding andThen codeIf heldIf roomRule
+      × (new ≡ bufferOf (andThen (valueCheck b) (roomRule needed (length old))) xs old)
+  unfolding andThen codeIf bufferOf roomRule
   written needed xs old new e h q = rw (e, le-leb needed (length old) h) (refl, q)
 
 -- four loads and the four numbers of a verdict, stored at the front

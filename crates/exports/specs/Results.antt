@@ -1,14 +1,17 @@
--- What the C interface gives back, and what a lent slice then holds.
+-- What the C interface gives back.
 use Prim.Native.Nat.{ℕ, _+_, _*_, _%_}
-use mathlib.Core.List.{List, _++_}
+use mathlib.Core.List.{List}
 use lib.Dec.{leb}
-use lib.ListN.{length, drop}
+use lib.ListN.{length}
 use Rattle.site.specs.Choice.{pick}
 use Rattle.site.specs.Refusal.{ruleNumber}
 use Rattle.site.specs.declared.Rule.{Rule}
 use Rattle.site.specs.declared.Rule.the-variants.{BufferShort}
 use Rattle.site.specs.declared.Checked.{Checked}
 use Rattle.site.specs.declared.Checked.the-variants.{Passed, Broken}
+use Rattle.record.specs.declared.Outcome.{Outcome}
+use Rattle.record.specs.declared.Outcome.the-variants.{Accepted, Refused}
+use Rattle.record.specs.Writer.{bufferOf}
 
 -- rule number × 2³² + offset
 unfoldable pub refusalCode : Rule → ℕ → ℕ
@@ -23,6 +26,11 @@ unfoldable pub codeIf : Checked → ℕ → ℕ
 codeIf Passed count = count
 codeIf (Broken r) count = refusalCode r 0
 
-unfoldable pub heldIf : Checked → List ℕ → List ℕ → List ℕ
-heldIf Passed xs old = xs ++ drop (length xs) old
-heldIf (Broken r) xs old = old
+-- a record read and written again: what the reader says, else 11 or the count of its own bytes
+unfoldable pub rewriteCode : Outcome → (bytes old : List ℕ) → ℕ
+rewriteCode (Refused r at) b old = refusalCode r at
+rewriteCode Accepted b old = codeIf (roomRule (length b) (length old)) (length b)
+
+unfoldable pub rewriteHeld : Outcome → (bytes old : List ℕ) → List ℕ
+rewriteHeld (Refused r at) b old = old
+rewriteHeld Accepted b old = bufferOf (roomRule (length b) (length old)) b old

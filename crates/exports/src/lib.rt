@@ -1,7 +1,10 @@
 // The C interface: `docs/forest.h` describes it for its users.
+mod codes;
 mod layout;
+mod record_calls;
 mod value_calls;
 
+pub use record_calls::forest_rewrite;
 pub use value_calls::forest_check;
 pub use value_calls::forest_judge;
 pub use value_calls::forest_loads;

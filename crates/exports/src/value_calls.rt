@@ -3,8 +3,10 @@ ghost use mathlib.Core.Path.{_≡_};
 ghost use Prim.Native.Nat.{_+_, _≤_};
 ghost use lib.ListN.{length, getD, set};
 ghost use Rattle.site.specs.Refusal.{andThen};
-ghost use Rattle.exports.specs.Results.{refusalCode, roomRule, codeIf, heldIf};
+ghost use Rattle.record.specs.Writer.{bufferOf};
+ghost use Rattle.exports.specs.Results.{roomRule, codeIf};
 ghost use Rattle.exports.specs.Layout.{siteIn, valueCheck, loadsNumbers, judgementNumbers, verdictMarked};
+use crate::codes::refused;
 use crate::layout::site_in;
 use judgement::JudgementAnswer;
 use judgement::Verdict;
@@ -15,14 +17,6 @@ use loads::critical_loads;
 use site::Checked;
 use site::Rule;
 use site::check_site;
-use site::rule_number;
-
-// A refusal at offset 0.
-fn refused(rule: Rule) -> u64
-    ensures { λ r. ⌜ r ≡ refusalCode rule 0 ⌝ }
-{
-    rule_number(rule) * 4_294_967_296
-}
 
 #[no_mangle]
 pub extern "C" fn forest_check(site: &[u8]) -> u64
@@ -51,7 +45,7 @@ fn put_four(out: &mut [u64], at: usize, ns: [u64; 4])
 #[no_mangle]
 pub extern "C" fn forest_loads(site: &[u8], out: &mut [u64]) -> u64
     ensures answer { λ r. ⌜ r ≡ codeIf (andThen (valueCheck (now (site .entry))) (roomRule 4 (length (now (out .entry))))) 4 ⌝ }
-    ensures buffer { λ _. ⌜ now (out .exit) ≡ heldIf (andThen (valueCheck (now (site .entry))) (roomRule 4 (length (now (out .entry))))) (loadsNumbers (siteIn (now (site .entry)))) (now (out .entry)) ⌝ }
+    ensures buffer { λ _. ⌜ now (out .exit) ≡ bufferOf (andThen (valueCheck (now (site .entry))) (roomRule 4 (length (now (out .entry))))) (loadsNumbers (siteIn (now (site .entry)))) (now (out .entry)) ⌝ }
 {
     if site.len() != 50 {
         return refused(Rule::BadLength);
@@ -85,7 +79,7 @@ fn verdict_marked(v: Verdict) -> [u64; 4]
 #[no_mangle]
 pub extern "C" fn forest_judge(site: &[u8], out: &mut [u64]) -> u64
     ensures answer { λ r. ⌜ r ≡ codeIf (andThen (valueCheck (now (site .entry))) (roomRule 8 (length (now (out .entry))))) 8 ⌝ }
-    ensures buffer { λ _. ⌜ now (out .exit) ≡ heldIf (andThen (valueCheck (now (site .entry))) (roomRule 8 (length (now (out .entry))))) (judgementNumbers (siteIn (now (site .entry)))) (now (out .entry)) ⌝ }
+    ensures buffer { λ _. ⌜ now (out .exit) ≡ bufferOf (andThen (valueCheck (now (site .entry))) (roomRule 8 (length (now (out .entry))))) (judgementNumbers (siteIn (now (site .entry)))) (now (out .entry)) ⌝ }
 {
     if site.len() != 50 {
         return refused(Rule::BadLength);

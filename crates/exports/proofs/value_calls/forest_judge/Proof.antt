@@ -16,7 +16,7 @@ use Rattle.exports.proofs.value_calls.forest_judge.Reads as reads
 use Rattle.exports.proofs.value_calls.forest_judge.Lts as lts
 use Rattle.exports.proofs.layout.site_in.Reads as site-in-reads
 use Rattle.exports.proofs.value_calls.put_four.Reads as put-four-reads
-use Rattle.exports.proofs.value_calls.refused.Reads as refused-reads
+use Rattle.exports.proofs.codes.refused.Reads as refused-reads
 use Rattle.exports.proofs.value_calls.verdict_marked.Reads as verdict-marked-reads
 use Rattle.judgement.proofs.judge.Reads as judge-reads
 

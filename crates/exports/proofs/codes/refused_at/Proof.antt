@@ -1,0 +1,25 @@
+use native.Mathlib.Omega.{arith}
+use Rattle.exports.specs.Results.{refusalCode}
+use Rattle.exports.proofs.ResultLaws.{number-le}
+use borrow.Author.Needs.{needs}
+use Rattle.exports.proofs.codes.refused_at.Statement.{statement}
+use Rattle.exports.proofs.codes.refused_at.Tie as tie
+use Rattle.exports.proofs.codes.refused_at.Reads as reads
+use Rattle.exports.proofs.codes.refused_at.Lts as lts
+use Rattle.site.proofs.rule_number.Reads as rule-number-reads
+
+rule-number-requires : tie.Need-rule-number-requires
+rule-number-requires c κs = search needs
+
+mul-result : tie.Need-mul-result
+mul-result c = omega (arith, c .rule-number .ensures, number-le (c .before .args .rule))
+
+add-result : tie.Need-add-result
+add-result c = omega (arith, c .rule-number .ensures, number-le (c .before .args .rule))
+
+returns : tie.Need-returns
+unfolding refusalCode
+returns c = rw (c .rule-number .ensures)
+
+pub refused-at-spec : {M : Type 1} → statement M
+refused-at-spec = tie.close (tie.spec rule-number-requires mul-result add-result returns)

@@ -1,0 +1,27 @@
+// A single record, read and written again.
+ghost use mathlib.Core.Path.{_≡_};
+ghost use Rattle.record.specs.Outer.{readRecord};
+ghost use Rattle.exports.specs.Results.{rewriteCode, rewriteHeld};
+use crate::codes::refused;
+use crate::codes::refused_at;
+use record::Outcome;
+use record::Written;
+use record::read_record;
+use record::write_record;
+
+#[no_mangle]
+pub extern "C" fn forest_rewrite(input: &[u8], out: &mut [u8]) -> u64
+    ensures answer { λ r. ⌜ r ≡ rewriteCode (readRecord (now (input .entry)) .outcome) (now (input .entry)) (now (out .entry)) ⌝ }
+    ensures buffer { λ _. ⌜ now (out .exit) ≡ rewriteHeld (readRecord (now (input .entry)) .outcome) (now (input .entry)) (now (out .entry)) ⌝ }
+{
+    let read = read_record(input);
+    let site = read.site;
+    let outcome = read.outcome;
+    match outcome {
+        Outcome::Refused { rule, at } => refused_at(rule, at),
+        Outcome::Accepted => match write_record(site, out) {
+            Written::Refused(rule) => refused(rule),
+            Written::Wrote(n) => n as u64,
+        },
+    }
+}
