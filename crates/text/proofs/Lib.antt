@@ -1,0 +1,7 @@
+pub mod WriteLaws
+pub mod DecimalLaws
+pub mod EachLaws
+pub mod LineLaws
+pub mod AnswerLaws
+pub mod WordLaws
+pub mod MarkLaws

@@ -1,0 +1,56 @@
+-- A row's line: name, four loads, region, two exceedances, mark, with single spaces.
+use Prim.Native.Nat.{ℕ}
+use mathlib.Core.List.{List, [], _∷_, _++_}
+use lib.ListN.{take}
+use Rattle.loads.specs.declared.Loads.{Loads}
+use Rattle.judgement.specs.declared.Verdict.{Verdict}
+use Rattle.judgement.specs.declared.Verdict.the-variants.{Within, Over}
+use Rattle.judgement.specs.Regions.{regionNumber}
+use Rattle.text.specs.declared.Row.{Row}
+use Rattle.text.specs.Decimal.{decimal}
+use Rattle.text.specs.Writing.{each}
+
+-- what a list of rows has past its end
+abbrev pub noRow : Row
+noRow =
+    record {
+      name = [];
+      «name_len» = 0;
+      loads = record { «max_s» = 0; «min_n» = 0; «max_n» = 0; «nut_n» = 0 };
+      verdict = Within;
+    }
+
+-- `within` or `over`
+unfoldable pub mark : Verdict → List ℕ
+mark Within = 119 ∷ 105 ∷ 116 ∷ 104 ∷ 105 ∷ 110 ∷ []
+mark (Over g a n) = 111 ∷ 118 ∷ 101 ∷ 114 ∷ []
+
+-- region, acid and nutrient exceedance
+unfoldable pub exceeded : Verdict → List ℕ
+exceeded Within = 0 ∷ 0 ∷ 0 ∷ []
+exceeded (Over g a n) = regionNumber g ∷ a ∷ n ∷ []
+
+-- CLmaxS, CLminN, CLmaxN, CLnutN
+unfoldable pub loadNumbers : Loads → List ℕ → List ℕ
+loadNumbers l ns = l .«max_s» ∷ l .«min_n» ∷ l .«max_n» ∷ l .«nut_n» ∷ ns
+
+-- the seven numbers of a line
+unfoldable pub numbersOf : Row → List ℕ
+numbersOf r = loadNumbers (r .loads) (exceeded (r .verdict))
+
+unfoldable pub nameText : Row → List ℕ
+nameText r = take (r .«name_len») (r .name)
+
+-- a word after the first of its line
+unfoldable pub spaced : List ℕ → List ℕ
+spaced w = 32 ∷ w
+
+unfoldable pub column : ℕ → List ℕ
+column n = spaced (decimal n)
+
+-- a row's line without its end
+unfoldable pub body : Row → List ℕ
+body r = nameText r ++ each column (numbersOf r) ++ spaced (mark (r .verdict))
+
+unfoldable pub line : Row → List ℕ
+line r = body r ++ (10 ∷ [])
