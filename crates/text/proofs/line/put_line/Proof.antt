@@ -6,7 +6,7 @@ use mathlib.Core.List.{List}
 use native.Mathlib.Omega.{arith}
 use lib.ListN.{length, length-set}
 use Rattle.text.specs.Writing.{each}
-use Rattle.text.specs.Line.{spaced, column, mark, numbersOf, nameText, body, line}
+use Rattle.text.specs.Line.{spaced, column, mark, body, line}
 use Rattle.text.proofs.WriteLaws.{then, stored}
 use Rattle.text.proofs.LineLaws.{length-line}
 use Rattle.text.proofs.line.put_line.Statement.{statement}

@@ -1,9 +1,9 @@
 -- `text::listing::lines_len` meets its contract.
-use Prim.Native.Nat.{ℕ, _+_, _-_, _*_, _≤_}
-use mathlib.Core.Path.{_≡_, refl, ap, _∙_}
+use Prim.Native.Nat.{_-_, _*_, _≤_}
+use mathlib.Core.Path.{_≡_}
 use native.Mathlib.Omega.{arith}
 use borrow.Author.Needs.{needs}
-use lib.ListN.{length, getD, take, length-append}
+use lib.ListN.{length, take}
 use Rattle.text.specs.Line.{noRow, line}
 use Rattle.text.specs.Writing.{each}
 use Rattle.text.proofs.EachLaws.{length-more}

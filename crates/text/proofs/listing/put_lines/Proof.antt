@@ -1,5 +1,5 @@
 -- `text::listing::put_lines` meets its contract: after i turns the first i lines are written.
-use Prim.Native.Nat.{ℕ, _+_, _-_, _≤_}
+use Prim.Native.Nat.{_-_, _≤_}
 use mathlib.Core.Path.{_≡_, refl}
 use native.Mathlib.Omega.{arith}
 use lib.ListN.{length, getD, take}

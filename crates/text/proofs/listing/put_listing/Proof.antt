@@ -1,11 +1,11 @@
 -- `text::listing::put_listing` meets its contract.
-use Prim.Native.Nat.{ℕ, _+_, _-_, _*_, _≤_, _<_}
-use mathlib.Core.Path.{_≡_, refl, sym, ap, _∙_}
+use Prim.Native.Nat.{ℕ, _≤_}
+use mathlib.Core.Path.{_≡_, sym, ap, _∙_}
 use mathlib.Core.Logic.{⊎-elim}
 use native.Mathlib.Omega.{arith}
 use denote.Ref.{now}
-use lib.ListN.{length, getD, take, length-append}
-use mathlib.Core.List.{List, _++_}
+use lib.ListN.{length, take}
+use mathlib.Core.List.{List}
 use Rattle.text.specs.declared.Row.{Row}
 use lib.Seq.{take-all}
 use Rattle.text.specs.Writing.{Wrote, each}

@@ -1,6 +1,6 @@
 -- `text::writing::put_bytes` meets its contract: at each turn the first j bytes are written.
-use Prim.Native.Nat.{ℕ, _+_, _-_, _≤_}
-use mathlib.Core.Path.{_≡_, refl, _∙_}
+use Prim.Native.Nat.{_+_, _-_, _≤_}
+use mathlib.Core.Path.{_≡_, refl}
 use native.Mathlib.Omega.{arith}
 use lib.ListN.{length, take, length-set}
 use denote.Ref.{now}
