@@ -1,1 +1,5 @@
 pub mod Regions
+pub mod Verdicts
+pub mod Balance
+pub mod Conditions
+pub mod Cases

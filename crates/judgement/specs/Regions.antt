@@ -1,5 +1,10 @@
--- The numbers of the regions.
-use Prim.Native.Nat.{ℕ}
+-- The acid regions and the acid exceedance, on plain numbers: C is CLmaxS, m is CLminN, e the part that is not denitrified.
+-- Where n = N − m or v would be below 0, the subtraction of ℕ gives 0; `proofs/NotCutOff.antt` shows that no such value is used.
+use Prim.Native.Nat.{ℕ, _+_, _*_, _-_}
+use mathlib.Core.Bool.{_&&_, _||_}
+use lib.Dec.{leb, ltb}
+use Rattle.site.specs.Choice.{pick}
+use Rattle.loads.specs.Rounding.{up}
 use Rattle.judgement.specs.declared.Region.{Region}
 use Rattle.judgement.specs.declared.Region.the-variants.{Unexceeded, NoSulphur, Slope, Corner, SulphurOnly}
 
@@ -9,3 +14,30 @@ regionNumber NoSulphur = 1
 regionNumber Slope = 2
 regionNumber Corner = 3
 regionNumber SulphurOnly = 4
+
+-- D
+unfoldable pub D : ℕ → ℕ
+D e = 1000000 + e * e
+
+-- v
+unfoldable pub excess : (S C e n : ℕ) → ℕ
+excess S C e n = 1000 * S + e * n - 1000 * C
+
+-- the first region that applies; n ≤ 0 is N ≤ m, and v ≤ 0 is written without a subtraction
+unfoldable pub regionOf : (S N C m e : ℕ) → Region
+regionOf S N C m e =
+    pick (leb S C && (leb N m || leb (1000 * S + e * (N - m)) (1000 * C))) Unexceeded
+    (pick (leb N m) SulphurOnly
+    (pick (ltb ((N - m) * D e) (e * excess S C e (N - m))) Corner
+    (pick (ltb (S * D e) (1000 * excess S C e (N - m))) NoSulphur Slope)))
+
+-- the acid exceedance in each region
+unfoldable pub acidIn : Region → (S N C m e : ℕ) → ℕ
+acidIn Unexceeded S N C m e = 0
+acidIn SulphurOnly S N C m e = S - C
+acidIn Corner S N C m e = (N - m) + S - C
+acidIn NoSulphur S N C m e = S + up (e * (N - m) - 1000 * C) e
+acidIn Slope S N C m e = up ((1000 + e) * excess S C e (N - m)) (D e)
+
+unfoldable pub acidOf : (S N C m e : ℕ) → ℕ
+acidOf S N C m e = acidIn (regionOf S N C m e) S N C m e

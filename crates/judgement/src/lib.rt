@@ -1,18 +1,24 @@
-// The judgement of a site's deposition.
+// The judgement of a site's deposition: regions, exceedances and the verdict.
+mod exceedance;
+mod judging;
+mod regions;
+
+pub use judging::judge;
 use loads::Loads;
+pub use regions::region_number;
 use site::Rule;
 
 // The acid regions of document 01, "Judging a pair S, N".
 pub enum Region {
     // 0: not exceeded
     Unexceeded,
-    // 1: the nearest pair has no sulphur
+    // 1: the nearest pair that is not exceeded has no sulphur
     NoSulphur,
-    // 2: the nearest pair lies on the slope
+    // 2: it lies on the slope
     Slope,
-    // 3: the nearest pair is the corner CLmaxS, CLminN
+    // 3: it is the corner CLmaxS, CLminN
     Corner,
-    // 4: sulphur alone is too much
+    // 4: it has the same nitrogen
     SulphurOnly,
 }
 

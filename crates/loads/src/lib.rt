@@ -1,5 +1,22 @@
-// The critical loads of a site.
+// The critical loads of a site: the terms of document 01, "Terms, in order".
+mod critical;
+mod hydrogen;
+mod nitrogen;
+mod texture;
+mod uptake;
+mod weathering;
+mod widen;
+
+pub use critical::critical_loads;
+pub use hydrogen::greatest_level;
+pub use nitrogen::retained_of;
 use site::Rule;
+
+// The greatest allowed hydrogen level, or the rule that a number breaks.
+pub enum LevelAnswer {
+    Greatest(u64),
+    Refused(Rule),
+}
 
 // Whole eq per hectare and year: CLmaxS, CLminN, CLmaxN, CLnutN.
 pub struct Loads {

@@ -1,4 +1,16 @@
 // The value of a forest site, the rules of document 01, and the check of a site value.
+mod check;
+mod length;
+mod name;
+mod numbers;
+mod refusal;
+mod stand;
+mod value;
+
+pub use check::check_site;
+pub use length::length_permitted;
+pub use refusal::rule_number;
+pub use value::field_rule;
 
 // An entry of the stand: species, share in percent, yield of a pure stand in kg dry matter per hectare and year.
 pub struct Entry {

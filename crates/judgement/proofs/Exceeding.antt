@@ -1,0 +1,38 @@
+-- The acid exceedance is 0 exactly in region 0.
+use Prim.Native.Nat.{ℕ, _+_, _*_, _-_, _<_}
+use mathlib.Core.Path.{_≡_, refl}
+use mathlib.Core.Logic.{_↔_}
+use native.Mathlib.Omega.{arith}
+use native.Mathlib.Nat.{one-mul, mul-pos, le-div-iff-mul-le}
+use Rattle.loads.specs.Rounding.{up}
+use Rattle.judgement.specs.declared.Region.the-variants.{Unexceeded}
+use Rattle.judgement.specs.Regions.{D, excess, regionOf, acidIn, acidOf}
+use Rattle.judgement.proofs.RegionLaws.{by-region}
+use Rattle.judgement.proofs.NotCutOff.{slope-one, slope-three}
+
+-- a quotient, up, is above 0 where its dividend is
+up-pos : (x d : ℕ) → 0 < x → 0 < d → 0 < up x d
+unfolding up
+up-pos x d h i = le-div-iff-mul-le i .1 (omega (arith, one-mul d))
+
+module _ (S N C m e : ℕ) (p : 0 < e) where
+  zero-there : regionOf S N C m e ≡ Unexceeded → acidOf S N C m e ≡ 0
+  unfolding acidOf acidIn
+  zero-there h = rw h
+
+  zero-only : acidOf S N C m e ≡ 0 → regionOf S N C m e ≡ Unexceeded
+  unfolding acidOf acidIn D excess
+  zero-only =
+      by-region S N C m e (λ r. acidIn r S N C m e ≡ 0 → r ≡ Unexceeded)
+      (λ v z. refl)
+      (λ n g z. absurd (omega arith))
+      (λ n v t z. absurd (omega (arith, slope-three S N C m e t)))
+      (λ n v t k z.
+      let some = up-pos (e * (N - m) - 1000 * C) e (omega (arith, slope-one S N C m e k)) p in
+      absurd (omega arith))
+      (λ n v t k z.
+      let some = up-pos ((1000 + e) * excess S C e (N - m)) (D e) (mul-pos (omega arith) (omega arith)) (omega arith) in
+      absurd (omega arith))
+
+  pub zero-iff : (acidOf S N C m e ≡ 0) ↔ (regionOf S N C m e ≡ Unexceeded)
+  zero-iff = (zero-only, zero-there)

@@ -1,0 +1,7 @@
+pub mod RegionLaws
+pub mod NotCutOff
+pub mod Exceeding
+pub mod Least
+pub mod Demand3
+pub mod Monotone
+pub mod AnswerLaws

@@ -1,0 +1,31 @@
+-- `judgement::exceedance::acid_no_sulphur` meets its contract. Assumes nothing.
+use native.Mathlib.Omega.{arith}
+use native.Mathlib.Nat.{mul-le-mul}
+use borrow.Author.Needs.{needs}
+use Rattle.judgement.proofs.exceedance.acid_no_sulphur.Statement.{statement}
+use Rattle.judgement.proofs.exceedance.acid_no_sulphur.Tie as tie
+use Rattle.judgement.proofs.exceedance.acid_no_sulphur.Reads as reads
+use Rattle.judgement.proofs.exceedance.acid_no_sulphur.Lts as lts
+use Rattle.judgement.proofs.exceedance.up_by.Reads as up-by-reads
+
+mul-up-by : tie.Need-mul-up-by
+mul-up-by c = omega (arith, mul-le-mul (c .pre .2) (c .pre .3))
+
+mul-up-by-2 : tie.Need-mul-up-by-2
+mul-up-by-2 c = omega (arith, mul-le-mul (c .pre .2) (c .pre .3))
+
+sub-up-by : tie.Need-sub-up-by
+sub-up-by c = search needs
+
+up-by-requires : tie.Need-up-by-requires
+up-by-requires c κs = (c .pre .1, omega (arith, mul-le-mul (c .pre .2) (c .pre .3)))
+
+add-result : tie.Need-add-result
+add-result c = search needs
+
+returns : tie.Need-returns
+returns c = search needs
+
+pub acid-no-sulphur-spec : {M : Type 1} → statement M
+acid-no-sulphur-spec =
+    tie.close (tie.spec mul-up-by mul-up-by-2 sub-up-by up-by-requires add-result returns)

@@ -1,0 +1,69 @@
+-- `judgement::exceedance::acid_slope` meets its contract. Assumes nothing.
+use Prim.Native.Nat.{_+_, _*_, _-_, _≤_}
+use native.Mathlib.Omega.{arith}
+use native.Mathlib.Nat.{mul-le-mul}
+use Rattle.judgement.specs.Regions.{D, excess}
+use Rattle.loads.proofs.Numbers.{prod}
+use borrow.Author.Needs.{needs}
+use Rattle.judgement.proofs.exceedance.acid_slope.Statement.{statement}
+use Rattle.judgement.proofs.exceedance.acid_slope.Tie as tie
+use Rattle.judgement.proofs.exceedance.acid_slope.Reads as reads
+use Rattle.judgement.proofs.exceedance.acid_slope.Lts as lts
+use Rattle.judgement.proofs.exceedance.up_by.Reads as up-by-reads
+
+sizes :
+    (c : tie.Start) → let a = c .args in
+    (a .e * a .left ≤ 65535000) × (a .e * a .e ≤ 1000000) × ((1000 + a .e) * (1000 * a .s + a .e * a .left - 1000 * a .c) ≤ 262140000000)
+sizes c =
+    let el = mul-le-mul (c .pre .2) (c .pre .3) in
+    (el, mul-le-mul (c .pre .2) (c .pre .2), prod 2000 131070000 (omega arith) (omega arith))
+
+add-up-by : tie.Need-add-up-by
+add-up-by c = search needs
+
+mul-up-by : tie.Need-mul-up-by
+mul-up-by c = search needs
+
+mul-up-by-2 : tie.Need-mul-up-by-2
+mul-up-by-2 c = omega (arith, sizes c)
+
+add-up-by-2 : tie.Need-add-up-by-2
+add-up-by-2 c = omega (arith, sizes c)
+
+mul-up-by-3 : tie.Need-mul-up-by-3
+mul-up-by-3 c = omega (arith, sizes c)
+
+sub-up-by : tie.Need-sub-up-by
+sub-up-by c = search needs
+
+mul-up-by-4 : tie.Need-mul-up-by-4
+mul-up-by-4 c = omega (arith, sizes c)
+
+mul-up-by-5 : tie.Need-mul-up-by-5
+mul-up-by-5 c = omega (arith, sizes c)
+
+add-up-by-3 : tie.Need-add-up-by-3
+add-up-by-3 c = omega (arith, sizes c)
+
+up-by-requires : tie.Need-up-by-requires
+up-by-requires c κs = omega (arith, sizes c)
+
+returns : tie.Need-returns
+unfolding D excess
+returns c = c .up-by .ensures .0
+
+pub acid-slope-spec : {M : Type 1} → statement M
+acid-slope-spec =
+    tie.close
+    (tie.spec
+    add-up-by
+    mul-up-by
+    mul-up-by-2
+    add-up-by-2
+    mul-up-by-3
+    sub-up-by
+    mul-up-by-4
+    mul-up-by-5
+    add-up-by-3
+    up-by-requires
+    returns)

@@ -1,0 +1,53 @@
+use Rattle.judgement.specs.Regions.{acidOf}
+use borrow.Author.Needs.{needs}
+use Rattle.judgement.proofs.judging.verdict_at.Statement.{statement}
+use Rattle.judgement.proofs.judging.verdict_at.Tie as tie
+use Rattle.judgement.proofs.judging.verdict_at.Reads as reads
+use Rattle.judgement.proofs.judging.verdict_at.Lts as lts
+use Rattle.judgement.proofs.exceedance.above.Reads as above-reads
+use Rattle.judgement.proofs.exceedance.acid_in.Reads as acid-in-reads
+use Rattle.judgement.proofs.judging.verdict_from.Reads as verdict-from-reads
+use Rattle.judgement.proofs.judging.wide.Reads as wide-reads
+use Rattle.judgement.proofs.regions.region_of.Reads as region-of-reads
+
+wide-requires : tie.Need-wide-requires
+wide-requires c κs = search needs
+
+wide-requires-2 : tie.Need-wide-requires-2
+wide-requires-2 c κs = search needs
+
+region-of-requires : tie.Need-region-of-requires
+region-of-requires c κs = search needs
+
+acid-in-requires : tie.Need-acid-in-requires
+acid-in-requires c κs = search needs
+
+above-requires : tie.Need-above-requires
+above-requires c κs = search needs
+
+verdict-from-requires : tie.Need-verdict-from-requires
+verdict-from-requires c κs = search needs
+
+returns : tie.Need-returns
+unfolding acidOf
+returns c =
+    rw (
+      c .verdict-from .ensures,
+      c .before .above .ensures,
+      c .before .before .acid-in .ensures,
+      c .before .before .before .region-of .ensures,
+      c .before .before .before .before .wide2 .ensures .0,
+      c .before .before .before .before .before .wide .ensures .0,
+    )
+
+pub verdict-at-spec : {M : Type 1} → statement M
+verdict-at-spec =
+    tie.close
+    (tie.spec
+    wide-requires
+    wide-requires-2
+    region-of-requires
+    acid-in-requires
+    above-requires
+    verdict-from-requires
+    returns)

@@ -1,0 +1,82 @@
+// The verdict, and the call open to users.
+ghost use mathlib.Core.Path.{_≡_};
+ghost use mathlib.Core.Logic.{_↔_};
+ghost use Prim.Native.Nat.{_-_, _≤_};
+ghost use Rattle.site.specs.Check.{siteRule};
+ghost use Rattle.site.specs.declared.Checked.the-variants.{Passed};
+ghost use Rattle.loads.specs.CriticalLoads.{loadsOf};
+ghost use Rattle.judgement.specs.Regions.{regionOf, acidOf};
+ghost use Rattle.judgement.specs.Verdicts.{verdictOf, judgementAnswer, judgementValues};
+ghost use Rattle.judgement.specs.Balance.{Closes};
+use crate::Judged;
+use crate::JudgementAnswer;
+use crate::Region;
+use crate::Verdict;
+use crate::exceedance::above;
+use crate::exceedance::acid_in;
+use crate::regions::region_number;
+use crate::regions::region_of;
+use loads::Loads;
+use loads::LoadsAnswer;
+use loads::critical_loads;
+use loads::retained_of;
+use site::Site;
+
+// Within needs region 0 and nutrient exceedance 0.
+fn verdict_from(region: Region, acid: u64, nutrient: u64) -> Verdict
+    ensures { λ r. ⌜ r ≡ verdictOf region acid nutrient ⌝ }
+{
+    if 0 < region_number(region) {
+        return Verdict::Over {
+            region,
+            acid,
+            nutrient,
+        };
+    }
+    if 0 < nutrient {
+        return Verdict::Over {
+            region,
+            acid,
+            nutrient,
+        };
+    }
+    Verdict::Within
+}
+
+fn wide(x: u16) -> u64
+    ensures { λ r. ⌜ (r ≡ x) × (r ≤ 65535) ⌝ }
+{
+    x as u64
+}
+
+// The verdict on the pair s, n from the loads and e.
+fn verdict_at(l: Loads, e: u64, s: u16, n: u16) -> Verdict
+    requires { ⌜ (l .«max_s» ≤ 363125) × (1 ≤ e) × (e ≤ 1000) ⌝ }
+    ensures { λ r. ⌜ r ≡ verdictOf (regionOf s n (l .«max_s») (l .«min_n») e) (acidOf s n (l .«max_s») (l .«min_n») e) (n - l .«nut_n») ⌝ }
+{
+    let sulphur = wide(s);
+    let nitrogen = wide(n);
+    let c = l.max_s;
+    let m = l.min_n;
+    let region = region_of(sulphur, nitrogen, c, m, e);
+    let acid = acid_in(region, sulphur, nitrogen, c, m, e);
+    let nutrient = above(nitrogen, l.nut_n);
+    verdict_from(region, acid, nutrient)
+}
+
+// The loads of a site and the verdict on its own pair, or the first rule that it breaks.
+pub fn judge(site: Site) -> JudgementAnswer
+    ensures answer { λ r. ⌜ r ≡ judgementAnswer site ⌝ }
+    ensures values { λ r. ⌜ judgementValues r ≡ judgementValues (judgementAnswer site) ⌝ }
+    ensures demand3 { λ r. ⌜ (siteRule site ≡ Passed → ((r ≡ JudgementAnswer.Given (record { loads = loadsOf site; verdict = Verdict.Within })) ↔ Closes site (site .sulphur) (site .nitrogen))) ⌝ }
+{
+    match critical_loads(site) {
+        LoadsAnswer::Refused(rule) => JudgementAnswer::Refused(rule),
+        LoadsAnswer::Given(l) => {
+            let e = retained_of(site.drainage);
+            let verdict = verdict_at(l, e, site.sulphur, site.nitrogen);
+            let judged = Judged { loads: l, verdict };
+            JudgementAnswer::Given(judged)
+        }
+    }
+}

@@ -1,0 +1,35 @@
+-- What an answer of the loads says of its site.
+use Prim.Native.Nat.{ℕ}
+use mathlib.Core.Path.{_≡_, refl}
+use native.Mathlib.Omega.{arith}
+use Rattle.site.specs.Check.{siteRule}
+use Rattle.site.specs.declared.Site.{Site}
+use Rattle.site.specs.declared.Rule.{Rule}
+use Rattle.site.specs.declared.Checked.{Checked}
+use Rattle.site.specs.declared.Checked.the-variants.{Passed, Broken}
+use Rattle.loads.specs.declared.Loads.{Loads}
+use Rattle.loads.specs.declared.LoadsAnswer.{LoadsAnswer}
+use Rattle.loads.specs.declared.LoadsAnswer.the-variants.{Given, Refused}
+use Rattle.loads.specs.CriticalLoads.{loadsOf, loadsIf, loadsAnswer}
+
+clash : {r : Rule} {l : Loads} → Given l ≡ Refused r → ⊥
+clash e = let z : _≡_ {A = ℕ} 0 1 = cc in omega arith
+
+given-if : (c : Checked) (l k : Loads) → loadsIf c l ≡ Given k → (c ≡ Passed) × (k ≡ l)
+unfolding loadsIf
+given-if Passed l k e = (refl, cc)
+given-if (Broken r) l k e = let z : _≡_ {A = ℕ} 0 1 = cc in absurd (omega arith)
+
+refused-if : (c : Checked) (l : Loads) (r : Rule) → loadsIf c l ≡ Refused r → c ≡ Broken r
+unfolding loadsIf
+refused-if Passed l r e = absurd (clash e)
+refused-if (Broken k) l r e = cc
+
+module _ (s : Site) where
+  pub given : (l : Loads) → loadsAnswer s ≡ Given l → (siteRule s ≡ Passed) × (l ≡ loadsOf s)
+  unfolding loadsAnswer
+  given l e = given-if (siteRule s) (loadsOf s) l e
+
+  pub refused : (r : Rule) → loadsAnswer s ≡ Refused r → siteRule s ≡ Broken r
+  unfolding loadsAnswer
+  refused r e = refused-if (siteRule s) (loadsOf s) r e

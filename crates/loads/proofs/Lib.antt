@@ -1,0 +1,9 @@
+pub mod Numbers
+pub mod Tables
+pub mod TextureLaws
+pub mod UptakeLaws
+pub mod GreatestLaws
+pub mod LevelLaws
+pub mod TermLaws
+pub mod OneSiteLaws
+pub mod AnswerLaws

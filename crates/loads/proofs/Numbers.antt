@@ -1,0 +1,20 @@
+-- Laws of products and quotients.
+use Prim.Native.Nat.{ℕ, _*_, _/_, _≤_, _<_}
+use mathlib.Core.Path.{_≡_}
+use native.Mathlib.Nat.{mul-comm, mul-le-mul, mul-le-mul-left, mul-le-mul-right, le-trans, le-div-iff-mul-le, div-mul-le-self, div-le-of-le-mul}
+
+-- a product of bounded factors; the bounds are written, so that `omega` can show a factor's bound
+pub prod : (a b : ℕ) {x y : ℕ} → x ≤ a → y ≤ b → x * y ≤ a * b
+prod a b h i = mul-le-mul h i
+
+-- a quotient grows with its dividend
+pub div-mono : (k : ℕ) {a b : ℕ} → 0 < k → a ≤ b → a / k ≤ b / k
+div-mono k {a} {b} p h = le-div-iff-mul-le p .1 (le-trans (div-mul-le-self a k) h)
+
+-- a percentage of at most 100
+pub part-le : (x p : ℕ) → p ≤ 100 → x * p / 100 ≤ x
+part-le x p h = div-le-of-le-mul 100 (rw (mul-comm 100 x) (mul-le-mul-left x h))
+
+-- a quotient, from a bound of the divisor below
+pub quotient-le : (a r k n : ℕ) → k ≤ r → a ≤ k * n → a / r ≤ n
+quotient-le a r k n h l = div-le-of-le-mul r (le-trans l (mul-le-mul-right n h))

@@ -1,0 +1,71 @@
+-- The rules of the constant tables, each by one test that is computed over the whole table.
+use Prim.Native.Nat.{ℕ, zero, suc, _+_, _-_, _≤_, _<_}
+use mathlib.Core.Bool.{Bool, true, _&&_, _||_}
+use mathlib.Core.Path.{_≡_, refl}
+use mathlib.Core.Logic.{_⊎_, inl, inr, ⊎-elim}
+use mathlib.Core.List.{[], _∷_}
+use native.Mathlib.Omega.{arith}
+use borrow.Author.Tests.{leb-true, ne-eqb}
+use lib.Dec.{leb, eqb}
+use lib.ListN.{getD, List·getD-eq-default}
+use Rattle.site.proofs.Tests.{le-or-lt, and-l, and-r}
+use Rattle.loads.specs.Weathering.{classOf}
+use Rattle.loads.specs.Uptake.{content}
+use Rattle.loads.specs.Nitrogen.{denitrified, retainedOf}
+
+pub lt-or-le : (a b : ℕ) → (a < b) ⊎ (b ≤ a)
+lt-or-le a b = ⊎-elim (λ h. inr h) (λ h. inl h) (le-or-lt b a)
+
+-- a test at each number below n, and at one of them
+abbrev pub allBelow : (ℕ → Bool) → ℕ → Bool
+allBelow p zero = true
+allBelow p (suc n) = p n && allBelow p n
+
+pub one-below : (p : ℕ → Bool) (n : ℕ) → allBelow p n ≡ true → (k : ℕ) → k < n → p k ≡ true
+one-below p zero h k l = absurd (omega arith)
+one-below p (suc n) h k l =
+    ⊎-elim (λ (q : k < n). one-below p n (and-r (p n) (allBelow p n) h) k q)
+    (λ (q : n < suc k). let e : k ≡ n = omega arith in rw e (and-l (p n) (allBelow p n) h))
+    (le-or-lt (suc k) n)
+
+-- class k is 20 at most, and 1 at least where the parent material is not organic
+abbrev classTest : ℕ → ℕ → Bool
+classTest p t = leb (classOf p t) 20 && (eqb p 0 || leb 1 (classOf p t))
+
+class-tested : (p t : ℕ) → p ≤ 4 → 1 ≤ t → t ≤ 5 → classTest p t ≡ true
+unfolding classOf
+class-tested p t h i j =
+    let e : t - 1 + 1 ≡ t = omega arith in
+    rw (← e) (one-below (λ i. classTest p (i + 1)) 5 (one-below (λ p. allBelow (λ i. classTest p (i + 1)) 5) 5 refl p (omega arith)) (t - 1) (omega arith))
+
+pub class-le : (p t : ℕ) → p ≤ 4 → 1 ≤ t → t ≤ 5 → classOf p t ≤ 20
+class-le p t h i j = leb-true (classOf p t) 20 (and-l (leb (classOf p t) 20) _ (class-tested p t h i j))
+
+pub class-pos : (p t : ℕ) → p ≤ 4 → (p ≡ 0 → ⊥) → 1 ≤ t → t ≤ 5 → 1 ≤ classOf p t
+class-pos p t h n i j =
+    let here : eqb p 0 || leb 1 (classOf p t) ≡ true = and-r (leb (classOf p t) 20) _ (class-tested p t h i j) in
+    leb-true 1 (classOf p t) (rw (ne-eqb p 0 n) at here)
+
+pub content-le : (species element : ℕ) → species ≤ 8 → element < 4 → content species element ≤ 14993
+unfolding content
+content-le s i h l =
+    leb-true _ _
+    (one-below (λ i. leb (content s i) 14993) 4 (one-below (λ s. allBelow (λ i. leb (content s i) 14993) 4) 9 refl s (omega arith)) i l)
+
+pub retained-le : (d : ℕ) → retainedOf d ≤ 1000
+unfolding retainedOf
+retained-le d = omega arith
+
+pub retained-pos : (d : ℕ) → d ≤ 5 → 1 ≤ retainedOf d
+unfolding retainedOf denitrified
+retained-pos d h = leb-true _ _ (one-below (λ d. leb 1 (retainedOf d)) 6 refl d (omega arith))
+
+-- d is 1000 at most, so e = 1000 − d is not cut off
+pub denitrified-le : (d : ℕ) → d ≤ 5 → denitrified d ≤ 1000
+unfolding denitrified
+denitrified-le d h = leb-true _ _ (one-below (λ d. leb (denitrified d) 1000) 6 refl d (omega arith))
+
+-- past the table nothing is denitrified
+pub denitrified-none : (d : ℕ) → 5 < d → denitrified d ≡ 0
+unfolding denitrified
+denitrified-none d h = List·getD-eq-default {A = ℕ} (0 ∷ 100 ∷ 200 ∷ 400 ∷ 700 ∷ 800 ∷ []) 0 {n = d} (omega arith)

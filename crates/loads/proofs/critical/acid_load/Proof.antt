@@ -1,0 +1,54 @@
+-- `loads::critical::acid_load` meets its contract. Assumes nothing.
+use native.Mathlib.Omega.{arith}
+use mathlib.Core.Path.{refl}
+use Rattle.loads.specs.Conditions.{acidLoad}
+use borrow.Author.Needs.{needs}
+use Rattle.loads.proofs.critical.acid_load.Statement.{statement}
+use Rattle.loads.proofs.critical.acid_load.Tie as tie
+use Rattle.loads.proofs.critical.acid_load.Reads as reads
+use Rattle.loads.proofs.critical.acid_load.Lts as lts
+use Rattle.loads.proofs.hydrogen.critical_leaching.Reads as critical-leaching-reads
+use Rattle.loads.proofs.hydrogen.aluminium_limit.Reads as aluminium-limit-reads
+use Rattle.loads.proofs.uptake.base_uptake.Reads as base-uptake-reads
+
+add-supply : tie.Need-add-supply
+add-supply c = search needs
+
+base-uptake-requires : tie.Need-base-uptake-requires
+base-uptake-requires c κs = search needs
+
+sub-aluminium-limit : tie.Need-sub-aluminium-limit
+sub-aluminium-limit c = search needs
+
+aluminium-limit-requires : tie.Need-aluminium-limit-requires
+aluminium-limit-requires c κs = search needs
+
+add-result : tie.Need-add-result
+add-result c = search needs
+
+sub-result : tie.Need-sub-result
+sub-result c = search needs
+
+critical-leaching-requires : tie.Need-critical-leaching-requires
+critical-leaching-requires c κs = search needs
+
+add-result-2 : tie.Need-add-result-2
+add-result-2 c = search needs
+
+returns : tie.Need-returns
+unfolding acidLoad
+returns c = (rw (c .critical-leaching .ensures .0, c .before .aluminium-limit .ensures .0, c .before .before .base-uptake .ensures .0), omega arith)
+
+pub acid-load-spec : {M : Type 1} → statement M
+acid-load-spec =
+    tie.close
+    (tie.spec
+    add-supply
+    base-uptake-requires
+    sub-aluminium-limit
+    aluminium-limit-requires
+    add-result
+    sub-result
+    critical-leaching-requires
+    add-result-2
+    returns)

@@ -1,0 +1,42 @@
+use mathlib.Core.Path.{_≡_, refl, sym, _∙_}
+use Rattle.site.specs.Check.{siteRule}
+use Rattle.site.specs.declared.Checked.the-variants.{Passed}
+use Rattle.site.proofs.BoundsLaw.{bounds}
+use Rattle.loads.specs.CriticalLoads.{loadsIf, loadsAnswer}
+use borrow.Author.Needs.{needs}
+use Rattle.loads.proofs.critical.critical_loads.Statement.{statement}
+use Rattle.loads.proofs.critical.critical_loads.Tie as tie
+use Rattle.loads.proofs.critical.critical_loads.Reads as reads
+use Rattle.loads.proofs.critical.critical_loads.Lts as lts
+use Rattle.loads.proofs.critical.loads_of.Reads as loads-of-reads
+use Rattle.site.proofs.check_site.Reads as check-site-reads
+
+passed : (c : tie.After-enum-told) → siteRule (c .before .before .before .args .site) ≡ Passed
+passed c = sym (c .before .before .check-site .ensures .0) ∙ c .enum-told .given .1
+
+check-site-requires : tie.Need-check-site-requires
+check-site-requires c κs = search needs
+
+enum-known-rule : tie.Need-enum-known-rule
+enum-known-rule c = search needs
+
+enum-told : tie.Need-enum-told
+enum-told c = search needs
+
+loads-of-requires : tie.Need-loads-of-requires
+loads-of-requires c κs = bounds (c .before .before .before .args .site) (passed c)
+
+returns : tie.Need-returns
+unfolding loadsAnswer loadsIf
+returns c =
+    let broken = sym (c .before .before .before .check-site .ensures .0) ∙ c .before .rule .given .1 in
+    rw broken (refl, refl)
+
+returns-2 : tie.Need-returns-2
+unfolding loadsAnswer loadsIf
+returns-2 c = rw (passed (c .before), c .loads-of .ensures) (refl, refl)
+
+pub critical-loads-spec : {M : Type 1} → statement M
+critical-loads-spec =
+    tie.close
+    (tie.spec check-site-requires enum-known-rule enum-told loads-of-requires returns returns-2)

@@ -1,0 +1,101 @@
+use mathlib.Core.Path.{_≡_}
+use native.Mathlib.Omega.{arith}
+use Rattle.loads.specs.Nitrogen.{retained}
+use Rattle.loads.specs.CriticalLoads.{loadsOf}
+use Rattle.loads.proofs.TermLaws.{demand-is, minN-plain, maxN-is, nutN-is, leaching-is, retained-is, term-bounds}
+use borrow.Author.Needs.{needs}
+use Rattle.loads.proofs.critical.loads_of.Statement.{statement}
+use Rattle.loads.proofs.critical.loads_of.Tie as tie
+use Rattle.loads.proofs.critical.loads_of.Reads as reads
+use Rattle.loads.proofs.critical.loads_of.Lts as lts
+use Rattle.loads.proofs.critical.max_s_of.Reads as max-s-of-reads
+use Rattle.loads.proofs.critical.with_nitrogen.Reads as with-nitrogen-reads
+use Rattle.loads.proofs.nitrogen.leaching_of.Reads as leaching-of-reads
+use Rattle.loads.proofs.nitrogen.retained_of.Reads as retained-of-reads
+use Rattle.loads.proofs.uptake.stand_sums.Reads as stand-sums-reads
+use Rattle.loads.proofs.widen.index8.Reads as index8-reads
+use Rattle.loads.proofs.widen.wide16.Reads as wide16-reads
+
+retained-site : (c : tie.After-retained-of) → c .retained-of .result ≡ retained (c .before .before .before .before .before .before .before .before .before .before .args .s)
+retained-site c = rw (c .retained-of .ensures, retained-is (c .before .before .before .before .before .before .before .before .before .before .args .s))
+
+index8-requires : tie.Need-index8-requires
+index8-requires c κs = search needs
+
+stand-sums-requires : tie.Need-stand-sums-requires
+stand-sums-requires c κs = rw (c .index8 .ensures) (c .before .before .pre .stand)
+
+add-demand : tie.Need-add-demand
+add-demand c = search needs
+
+wide16-requires : tie.Need-wide16-requires
+wide16-requires c κs = search needs
+
+add-min-n : tie.Need-add-min-n
+add-min-n c = search needs
+
+wide16-requires-2 : tie.Need-wide16-requires-2
+wide16-requires-2 c κs = search needs
+
+wide16-requires-3 : tie.Need-wide16-requires-3
+wide16-requires-3 c κs = search needs
+
+leaching-of-requires : tie.Need-leaching-of-requires
+leaching-of-requires c κs = search needs
+
+retained-of-requires : tie.Need-retained-of-requires
+retained-of-requires c κs = search needs
+
+max-s-of-requires : tie.Need-max-s-of-requires
+max-s-of-requires c κs =
+    let at = c .before .before .before .before .before .before .before in
+    (at .before .before .before .pre, rw (demand-is (at .before .before .before .args .s), at .stand-sums .ensures .base, at .before .index8 .ensures))
+
+with-nitrogen-requires : tie.Need-with-nitrogen-requires
+with-nitrogen-requires c κs =
+    let at = c .before .before .before .before .before .before .before .before in
+    let b = at .before .before .before .pre in
+    record {
+      acid = c .max-s-of .ensures .1;
+      nitrogen = omega (arith, at .stand-sums .ensures .nitrogen-le, c .before .before .before .before .before .wide16 .ensures, b .immobilisation);
+      leaching = c .before .before .leaching-of .ensures .1;
+      divisor = rw (retained-site (c .before)) (term-bounds (at .before .before .before .args .s) b .retained-least);
+    }
+
+returns : tie.Need-returns
+unfolding loadsOf
+returns c =
+    let at = c .before .before .before .before .before .before .before .before .before in
+    let s = at .before .before .before .args .s in
+    rw (
+      c .with-nitrogen .ensures,
+      maxN-is s,
+      nutN-is s,
+      minN-plain s,
+      leaching-is s,
+      c .before .max-s-of .ensures .0,
+      at .stand-sums .ensures .nitrogen,
+      at .before .index8 .ensures,
+      c .before .before .before .before .before .before .wide16 .ensures,
+      c .before .before .before .leaching-of .ensures .0,
+      c .before .before .before .before .before .wide162 .ensures,
+      c .before .before .before .before .wide163 .ensures,
+      retained-site (c .before .before),
+    )
+
+pub loads-of-spec : {M : Type 1} → statement M
+loads-of-spec =
+    tie.close
+    (tie.spec
+    index8-requires
+    stand-sums-requires
+    add-demand
+    wide16-requires
+    add-min-n
+    wide16-requires-2
+    wide16-requires-3
+    leaching-of-requires
+    retained-of-requires
+    max-s-of-requires
+    with-nitrogen-requires
+    returns)

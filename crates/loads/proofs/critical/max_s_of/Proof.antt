@@ -1,0 +1,102 @@
+-- `loads::critical::max_s_of` meets its contract: each part is the site's term, by its law. Assumes nothing.
+use Prim.Native.Nat.{_≤_}
+use mathlib.Core.Path.{_≡_, sym, _∙_}
+use native.Mathlib.Omega.{arith}
+use Rattle.loads.specs.Weathering.{weathering, availableWeathering}
+use Rattle.loads.proofs.TermLaws.{weathering-is, available-is, maxS-plain, term-bounds}
+use borrow.Author.Needs.{needs}
+use Rattle.loads.proofs.critical.max_s_of.Statement.{statement}
+use Rattle.loads.proofs.critical.max_s_of.Tie as tie
+use Rattle.loads.proofs.critical.max_s_of.Reads as reads
+use Rattle.loads.proofs.critical.max_s_of.Lts as lts
+use Rattle.loads.proofs.critical.acid_load.Reads as acid-load-reads
+use Rattle.loads.proofs.weathering.available_of.Reads as available-of-reads
+use Rattle.loads.proofs.widen.wide16.Reads as wide16-reads
+use Rattle.loads.proofs.widen.wide8.Reads as wide8-reads
+use Rattle.loads.proofs.weathering.weathering_of.Reads as weathering-of-reads
+
+weathered : (c : tie.After-weathering-of) → c .weathering-of .result ≡ weathering (c .before .args .s)
+weathered c = c .weathering-of .ensures ∙ sym (weathering-is (c .before .args .s))
+
+available : (c : tie.After-available-of) → c .available-of .result ≡ availableWeathering (c .before .before .before .args .s)
+available c = cc (available-is (c .before .before .before .args .s), weathered (c .before .before), c .available-of .ensures .0, c .before .wide8 .ensures)
+
+weathering-of-requires : tie.Need-weathering-of-requires
+weathering-of-requires c κs = search needs
+
+wide8-requires : tie.Need-wide8-requires
+wide8-requires c κs = search needs
+
+available-of-requires : tie.Need-available-of-requires
+available-of-requires c κs =
+    let s = c .before .before in (
+      rw (weathered (c .before)) (term-bounds (s .args .s) (s .pre .0) .weathering-le),
+      rw (c .wide8 .ensures) (s .pre .0 .available),
+    )
+
+wide16-requires : tie.Need-wide16-requires
+wide16-requires c κs = search needs
+
+wide16-requires-2 : tie.Need-wide16-requires-2
+wide16-requires-2 c κs = search needs
+
+wide16-requires-3 : tie.Need-wide16-requires-3
+wide16-requires-3 c κs = search needs
+
+wide16-requires-4 : tie.Need-wide16-requires-4
+wide16-requires-4 c κs = search needs
+
+wide16-requires-5 : tie.Need-wide16-requires-5
+wide16-requires-5 c κs = search needs
+
+acid-load-requires : tie.Need-acid-load-requires
+acid-load-requires c κs =
+    let at = c .before .before .before .before .before in
+    let s = at .before .before .before in
+    let b = s .pre .0 in
+    record {
+      deposition = rw (c .before .before .before .before .wide16 .ensures) (b .deposition);
+      percolation = rw (c .before .before .before .wide162 .ensures) (b .percolation);
+      weathering = rw (weathered (at .before .before)) (term-bounds (s .args .s) b .weathering-le);
+      part = at .available-of .ensures .1;
+      limit =
+          omega
+          (arith, c .before .before .before .before .wide16 .ensures, b .deposition, available at, term-bounds (s .args .s) b .available-le, c .before .before .wide163 .ensures, b .ratio);
+      divisor = rw (c .before .before .wide163 .ensures) (omega (arith, b .ratio));
+      gibbsite = rw (c .before .wide164 .ensures) (b .gibbsite);
+      level = rw (c .wide165 .ensures) (b .ceiling);
+    }
+
+returns : tie.Need-returns
+returns c =
+    let at = c .before .before .before .before .before .before in
+    let s = at .before .before .before in (
+      rw (
+        c .acid-load .ensures .0,
+        maxS-plain (s .args .s),
+        weathered (at .before .before),
+        available at,
+        s .pre .1,
+        c .before .before .before .before .before .wide16 .ensures,
+        c .before .before .before .before .wide162 .ensures,
+        c .before .before .before .wide163 .ensures,
+        c .before .before .wide164 .ensures,
+        c .before .wide165 .ensures,
+      ),
+      c .acid-load .ensures .1,
+    )
+
+pub max-s-of-spec : {M : Type 1} → statement M
+max-s-of-spec =
+    tie.close
+    (tie.spec
+    weathering-of-requires
+    wide8-requires
+    available-of-requires
+    wide16-requires
+    wide16-requires-2
+    wide16-requires-3
+    wide16-requires-4
+    wide16-requires-5
+    acid-load-requires
+    returns)

@@ -1,0 +1,17 @@
+-- `loads::nitrogen::leaching_of` meets its contract. Assumes nothing.
+use mathlib.Core.Path.{refl}
+use native.Mathlib.Omega.{arith}
+use native.Mathlib.Nat.{mul-le-mul}
+use Rattle.loads.proofs.nitrogen.leaching_of.Statement.{statement}
+use Rattle.loads.proofs.nitrogen.leaching_of.Tie as tie
+use Rattle.loads.proofs.nitrogen.leaching_of.Reads as reads
+use Rattle.loads.proofs.nitrogen.leaching_of.Lts as lts
+
+mul-result : tie.Need-mul-result
+mul-result c = omega (arith, mul-le-mul (c .pre .0) (c .pre .1))
+
+returns : tie.Need-returns
+returns c = (refl, omega (arith, mul-le-mul (c .pre .0) (c .pre .1)))
+
+pub leaching-of-spec : {M : Type 1} → statement M
+leaching-of-spec = tie.close (tie.spec mul-result returns)

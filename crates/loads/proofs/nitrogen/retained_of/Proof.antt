@@ -1,0 +1,31 @@
+use native.Mathlib.Omega.{arith}
+use Rattle.loads.specs.Nitrogen.{retainedOf}
+use Rattle.loads.proofs.Tables.{denitrified-none}
+use borrow.Author.Needs.{needs}
+use Rattle.loads.proofs.nitrogen.retained_of.Statement.{statement}
+use Rattle.loads.proofs.nitrogen.retained_of.Tie as tie
+use Rattle.loads.proofs.nitrogen.retained_of.Reads as reads
+use Rattle.loads.proofs.nitrogen.retained_of.Lts as lts
+use Rattle.loads.proofs.nitrogen.denitrified_in.Reads as denitrified-in-reads
+use Rattle.loads.proofs.widen.index8.Reads as index8-reads
+
+index8-requires : tie.Need-index8-requires
+index8-requires c κs = search needs
+
+returns : tie.Need-returns
+unfolding retainedOf
+returns c = rw (denitrified-none (c .before .before .args .drainage) (omega arith))
+
+denitrified-in-requires : tie.Need-denitrified-in-requires
+denitrified-in-requires c κs = search needs
+
+sub-result : tie.Need-sub-result
+sub-result c = search needs
+
+returns-2 : tie.Need-returns-2
+unfolding retainedOf
+returns-2 c = rw (c .denitrified-in .ensures .0, c .before .before .index8 .ensures)
+
+pub retained-of-spec : {M : Type 1} → statement M
+retained-of-spec =
+    tie.close (tie.spec index8-requires returns denitrified-in-requires sub-result returns-2)

@@ -1,0 +1,17 @@
+-- `loads::weathering::available_of` meets its contract. Assumes nothing.
+use native.Mathlib.Omega.{arith}
+use mathlib.Core.Path.{refl}
+use Rattle.loads.proofs.Numbers.{prod, part-le}
+use Rattle.loads.proofs.weathering.available_of.Statement.{statement}
+use Rattle.loads.proofs.weathering.available_of.Tie as tie
+use Rattle.loads.proofs.weathering.available_of.Reads as reads
+use Rattle.loads.proofs.weathering.available_of.Lts as lts
+
+mul-result : tie.Need-mul-result
+mul-result c = omega (arith, prod 19500 85 (c .pre .0) (c .pre .1))
+
+returns : tie.Need-returns
+returns c = (refl, part-le (c .args .weathered) (c .args .share) (omega arith))
+
+pub available-of-spec : {M : Type 1} → statement M
+available-of-spec = tie.close (tie.spec mul-result returns)

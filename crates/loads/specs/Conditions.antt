@@ -1,0 +1,52 @@
+-- What the private functions ask of their numbers, and what they give beside the value.
+use Prim.Native.Nat.{ℕ, _+_, _*_, _-_, _/_, _≤_, _<_}
+use mathlib.Core.Path.{_≡_}
+use mathlib.Core.List.{List}
+use Rattle.site.specs.declared.Entry.{Entry}
+use Rattle.loads.specs.Uptake.{nitrogenIn, baseIn, weightOf, standSum, baseUptakeOf}
+use Rattle.loads.specs.Hydrogen.{hydrogenOf, alOf, levelOf}
+
+-- percolation, gibbsite constant, and a hydrogen level or ceiling
+pub record Levels (q k h : ℕ) : Type 0 where
+  pub percolation : q ≤ 3000
+  pub gibbsite : k ≤ 10000
+  pub level : h ≤ 5000
+
+-- what one entry weighs, for N and for Ca + Mg + K
+pub record Weighed (e : Entry) (n b : ℕ) : Type 0 where
+  pub nitrogen : n ≡ weightOf nitrogenIn e
+  pub base : b ≡ weightOf baseIn e
+  pub nitrogen-le : n ≤ 90000000000
+  pub base-le : b ≤ 90000000000
+
+-- the sums over the first k entries
+pub record Summed (stand : List Entry) (k n b : ℕ) : Type 0 where
+  pub nitrogen : n ≡ standSum nitrogenIn stand k
+  pub base : b ≡ standSum baseIn stand k
+  pub nitrogen-le : n ≤ 360000000000
+  pub base-le : b ≤ 360000000000
+
+-- base deposition, percolation, W, w, ratio, gibbsite constant and ceiling
+pub record AcidBounds (b q weathered available ratio k ceiling : ℕ) : Type 0 where
+  pub deposition : b ≤ 5000
+  pub percolation : q ≤ 3000
+  pub weathering : weathered ≤ 19500
+  pub part : available ≤ weathered
+  pub limit : 1500 * (b + available) ≤ 323625 * ratio
+  pub divisor : 0 < ratio
+  pub gibbsite : k ≤ 10000
+  pub level : ceiling ≤ 5000
+
+-- CLmaxS, CLminN, L and e
+pub record NitrogenBounds (c m leached e : ℕ) : Type 0 where
+  pub acid : c ≤ 363125
+  pub nitrogen : m ≤ 100000
+  pub leaching : leached ≤ 30000
+  pub divisor : 0 < e
+
+-- CLmaxS of plain numbers
+unfoldable pub acidLoad : (b q weathered available demand ratio k ceiling : ℕ) → ℕ
+acidLoad b q weathered available demand ratio k ceiling =
+    let taken = baseUptakeOf demand (b + available) q in
+    let h = levelOf q k (1500 * (b + available - taken) / ratio) ceiling in
+    b + weathered - taken + (hydrogenOf q h + alOf q k h)

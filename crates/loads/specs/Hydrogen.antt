@@ -1,0 +1,65 @@
+-- The aluminium limit, and the hydrogen level: whole tenths of meq per cubic metre.
+use Prim.Native.Nat.{ℕ, zero, suc, _+_, _*_, _-_, _/_, _^_}
+use mathlib.Core.Bool.{Bool, _&&_}
+use mathlib.Core.List.{List, [], _∷_}
+use lib.Dec.{leb}
+use Rattle.site.specs.Choice.{pick}
+use Rattle.site.specs.Refusal.{ruleNumber}
+use Rattle.site.specs.declared.Site.{Site}
+use Rattle.site.specs.declared.Rule.the-variants.{OutOfRange}
+use Rattle.loads.specs.declared.LevelAnswer.{LevelAnswer}
+use Rattle.loads.specs.declared.LevelAnswer.the-variants.{Greatest, Refused}
+use Rattle.loads.specs.Weathering.{availableWeathering}
+use Rattle.loads.specs.Uptake.{baseUptake}
+
+-- A
+unfoldable pub aluminiumLimit : Site → ℕ
+aluminiumLimit s = 1500 * ((s .«base_deposition») + availableWeathering s - baseUptake s) / (s .ratio)
+
+-- hydrogen that percolation q leaches at the level h
+unfoldable pub hydrogenOf : (q h : ℕ) → ℕ
+hydrogenOf q h = q * h / 1000
+
+-- al(h), of percolation q and gibbsite constant k
+unfoldable pub alOf : (q k h : ℕ) → ℕ
+alOf q k h = q * k * h ^ 3 / 10 ^ 12
+
+-- the greatest number up to n that passes a test, and 0 where none does
+unfoldable pub greatestWhere : (ℕ → Bool) → ℕ → ℕ
+greatestWhere test zero = 0
+greatestWhere test (suc n) = let below = greatestWhere test n in pick (test (suc n)) (suc n) below
+
+-- the greatest allowed level: at most the ceiling, and al(h) at most the limit; level 0 is always allowed, since al(0) is 0
+unfoldable pub levelOf : (q k limit ceiling : ℕ) → ℕ
+levelOf q k limit ceiling = greatestWhere (λ h. leb (alOf q k h) limit) ceiling
+
+-- the same of a site
+unfoldable pub hydrogen : Site → ℕ → ℕ
+hydrogen s h = hydrogenOf (s .percolation) h
+
+unfoldable pub aluminium : Site → ℕ → ℕ
+aluminium s h = alOf (s .percolation) (s .gibbsite) h
+
+unfoldable pub greatestLevel : Site → ℕ
+greatestLevel s = levelOf (s .percolation) (s .gibbsite) (aluminiumLimit s) (s .ceiling)
+
+-- M
+unfoldable pub criticalLeaching : Site → ℕ
+criticalLeaching s = hydrogen s (greatestLevel s) + aluminium s (greatestLevel s)
+
+-- the answer of the search: 8 where a number is outside its field's range
+unfoldable pub inside : (x least most : ℕ) → Bool
+inside x least most = leb least x && leb x most
+
+unfoldable pub levelAnswer : (q k limit ceiling : ℕ) → LevelAnswer
+levelAnswer q k limit ceiling =
+    pick (inside q 1 3000)
+    (pick (inside k 1 10000)
+    (pick (inside ceiling 1 5000) (Greatest (levelOf q k limit ceiling)) (Refused OutOfRange))
+    (Refused OutOfRange))
+    (Refused OutOfRange)
+
+-- the values of each case: the level, or the refusal's number and offset
+unfoldable pub levelValues : LevelAnswer → List ℕ
+levelValues (Greatest h) = h ∷ []
+levelValues (Refused r) = ruleNumber r ∷ 0 ∷ []

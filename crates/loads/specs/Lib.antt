@@ -1,0 +1,10 @@
+pub mod Rounding
+pub mod Texture
+pub mod Weathering
+pub mod Uptake
+pub mod Hydrogen
+pub mod Nitrogen
+pub mod CriticalLoads
+pub mod OneSite
+pub mod Conditions
+pub mod Example

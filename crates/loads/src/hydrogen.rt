@@ -1,0 +1,80 @@
+// The aluminium limit, and the hydrogen level.
+ghost use mathlib.Core.Path.{_≡_};
+ghost use Prim.Native.Nat.{_+_, _*_, _/_, _≤_, _<_};
+ghost use Rattle.loads.specs.Hydrogen.{hydrogenOf, alOf, levelOf, inside, levelAnswer, levelValues};
+ghost use Rattle.loads.specs.Conditions.{Levels};
+use crate::LevelAnswer;
+use crate::widen::wide16;
+use site::Rule;
+
+// A: left is B + w − Bu
+pub fn aluminium_limit(left: u64, ratio: u64) -> u64
+    requires { ⌜ (left ≤ 100000) × (0 < ratio) × (1500 * left ≤ 323625 * ratio) ⌝ }
+    ensures { λ r. ⌜ (r ≡ 1500 * left / ratio) × (r ≤ 323625) ⌝ }
+{
+    1500 * left / ratio
+}
+
+// al(h)
+fn aluminium_at(q: u64, k: u64, h: u64) -> u64
+    requires { ⌜ Levels q k h ⌝ }
+    ensures { λ r. ⌜ r ≡ alOf q k h ⌝ }
+{
+    q * k * (h * h * h) / 1_000_000_000_000
+}
+
+// The greatest allowed level by bisection, the ceiling first: at most 14 values of al(h).
+fn level(q: u64, k: u64, limit: u64, ceiling: u64) -> u64
+    requires { ⌜ Levels q k ceiling ⌝ }
+    ensures { λ r. ⌜ r ≡ levelOf q k limit ceiling ⌝ }
+{
+    if aluminium_at(q, k, ceiling) <= limit {
+        return ceiling;
+    }
+    let mut low = 0;
+    let mut high = ceiling;
+    while low + 1 < high {
+        let middle = (low + high) / 2;
+        if aluminium_at(q, k, middle) <= limit {
+            low = middle;
+        } else {
+            high = middle;
+        }
+    }
+    low
+}
+
+// M
+pub fn critical_leaching(q: u64, k: u64, limit: u64, ceiling: u64) -> u64
+    requires { ⌜ Levels q k ceiling ⌝ }
+    ensures { λ r. ⌜ (r ≡ hydrogenOf q (levelOf q k limit ceiling) + alOf q k (levelOf q k limit ceiling)) × (r ≤ 15000 + limit) ⌝ }
+{
+    let h = level(q, k, limit, ceiling);
+    q * h / 1000 + aluminium_at(q, k, h)
+}
+
+fn is_inside(x: u16, least: u16, most: u16) -> bool
+    ensures { λ r. ⌜ r ≡ inside x least most ⌝ }
+{
+    if x < least {
+        return false;
+    }
+    x <= most
+}
+
+// The greatest allowed level for percolation q, gibbsite constant k, aluminium limit and hydrogen ceiling.
+pub fn greatest_level(q: u16, k: u16, limit: u64, ceiling: u16) -> LevelAnswer
+    ensures answer { λ r. ⌜ r ≡ levelAnswer q k limit ceiling ⌝ }
+    ensures values { λ r. ⌜ levelValues r ≡ levelValues (levelAnswer q k limit ceiling) ⌝ }
+{
+    if !is_inside(q, 1, 3000) {
+        return LevelAnswer::Refused(Rule::OutOfRange);
+    }
+    if !is_inside(k, 1, 10000) {
+        return LevelAnswer::Refused(Rule::OutOfRange);
+    }
+    if !is_inside(ceiling, 1, 5000) {
+        return LevelAnswer::Refused(Rule::OutOfRange);
+    }
+    LevelAnswer::Greatest(level(wide16(q), wide16(k), limit, wide16(ceiling)))
+}

@@ -1,0 +1,34 @@
+// The part of nitrogen that is not denitrified, and the acceptable leaching.
+ghost use mathlib.Core.Path.{_≡_};
+ghost use Prim.Native.Nat.{_*_, _/_, _≤_};
+ghost use Rattle.loads.specs.Nitrogen.{denitrified, retainedOf};
+use crate::widen::index8;
+
+// d, per mille, by drainage.
+const DENITRIFIED: [u64; 6] = [0, 100, 200, 400, 700, 800];
+
+fn denitrified_in(drainage: usize) -> u64
+    requires { ⌜ drainage ≤ 5 ⌝ }
+    ensures { λ r. ⌜ (r ≡ denitrified drainage) × (r ≤ 1000) ⌝ }
+{
+    DENITRIFIED[drainage]
+}
+
+// e, per mille; past the classes nothing is denitrified.
+pub fn retained_of(drainage: u8) -> u64
+    ensures { λ r. ⌜ r ≡ retainedOf drainage ⌝ }
+{
+    let class = index8(drainage);
+    if 5 < class {
+        return 1000;
+    }
+    1000 - denitrified_in(class)
+}
+
+// L
+pub fn leaching_of(q: u64, c: u64) -> u64
+    requires { ⌜ (q ≤ 3000) × (c ≤ 1000) ⌝ }
+    ensures { λ r. ⌜ (r ≡ q * c / 100) × (r ≤ 30000) ⌝ }
+{
+    q * c / 100
+}

@@ -1,0 +1,82 @@
+// What a stand takes up.
+ghost use mathlib.Core.Path.{_≡_};
+ghost use Prim.Native.Nat.{_<_, _≤_};
+ghost use Rattle.site.specs.Bounds.{EntryBounds, StandBounds};
+ghost use Rattle.loads.specs.Uptake.{content as Uptake·content, baseUptakeOf};
+ghost use Rattle.loads.specs.Conditions.{Weighed, Summed};
+use crate::widen::index8;
+use crate::widen::wide8;
+use crate::widen::wide16;
+use site::Entry;
+
+// The species table: Ca, Mg, K, N in hundredths of eq per tonne.
+const CONTENTS: [[u64; 4]; 9] = [
+    [5389, 1980, 1660, 7782],
+    [7036, 1480, 1970, 8710],
+    [8982, 2140, 3580, 10357],
+    [12330, 1480, 2690, 14993],
+    [8483, 2470, 3330, 9995],
+    [5988, 1650, 1920, 12137],
+    [4790, 1810, 1560, 8214],
+    [14970, 1980, 2560, 9995],
+    [8483, 2470, 3330, 9995],
+];
+
+fn content(species: usize, element: usize) -> u64
+    requires { ⌜ (species ≤ 8) × (element < 4) ⌝ }
+    ensures { λ r. ⌜ (r ≡ Uptake·content species element) × (r ≤ 14993) ⌝ }
+{
+    CONTENTS[species][element]
+}
+
+pub struct Sums {
+    pub nitrogen: u64,
+    pub base: u64,
+}
+
+// share × yield × content of one entry, for N and for Ca + Mg + K
+fn weighed(entry: Entry) -> Sums
+    requires { ⌜ EntryBounds entry ⌝ }
+    ensures { λ r. ⌜ Weighed entry (r .nitrogen) (r .base) ⌝ }
+{
+    let species = index8(entry.species);
+    let yielded = wide8(entry.share) * wide16(entry.yield_kg);
+    let base = content(species, 0) + content(species, 1) + content(species, 2);
+    Sums {
+        nitrogen: yielded * content(species, 3),
+        base: yielded * base,
+    }
+}
+
+// the same over the entries
+pub fn stand_sums(stand: [Entry; 4], entries: usize) -> Sums
+    requires { ⌜ StandBounds stand entries ⌝ }
+    ensures { λ r. ⌜ Summed stand entries (r .nitrogen) (r .base) ⌝ }
+{
+    let mut nitrogen: u64 = 0;
+    let mut base: u64 = 0;
+    let mut i: usize = 0;
+    while i < entries {
+        let sums = weighed(stand[i]);
+        nitrogen += sums.nitrogen;
+        base += sums.base;
+        i += 1;
+    }
+    Sums { nitrogen, base }
+}
+
+// Bu: supply is B + w
+pub fn base_uptake(demand: u64, supply: u64, q: u64) -> u64
+    requires { ⌜ q ≤ 3000 ⌝ }
+    ensures { λ r. ⌜ (r ≡ baseUptakeOf demand supply q) × (r ≤ supply) ⌝ }
+{
+    let least = (q + 9) / 10;
+    if supply <= least {
+        return 0;
+    }
+    let spare = supply - least;
+    if demand <= spare {
+        return demand;
+    }
+    spare
+}

@@ -1,0 +1,79 @@
+-- A site that passes the check is within the bounds that the calculation leans on.
+use mathlib.Core.Path.{_≡_}
+use mathlib.Core.Logic.{⊎-elim}
+use mathlib.Core.Bool.{true, _&&_}
+use mathlib.Core.List.{List}
+use Prim.Native.Nat.{ℕ, _+_, _≤_, _<_}
+use native.Mathlib.Omega.{arith}
+use lib.Dec.{leb}
+use lib.ListN.{length, getD, take, length-take, List·getD-eq-default}
+use lib.Seq.{getD-take}
+use borrow.Author.Tests.{leb-true}
+use Rattle.site.specs.declared.Site.{Site}
+use Rattle.site.specs.declared.Entry.{Entry}
+use Rattle.site.specs.declared.Rule.the-variants.{BadLength, OutOfRange}
+use Rattle.site.specs.declared.Checked.the-variants.{Passed}
+use Rattle.site.specs.Bounds.{noEntry, EntryBounds, StandBounds, Bounds}
+use Rattle.site.specs.Check.{siteRule}
+use Rattle.site.specs.Values.{due, countRule, itemCount, valueRule, standRule, entryRanged, allOf}
+use Rattle.site.proofs.Tests.{le-or-lt, and-l, and-r}
+use Rattle.site.proofs.Passing.{pass-then, ranged-passed, between-passed}
+use Rattle.site.proofs.PartLaws.{all-at}
+use Rattle.site.proofs.FieldLaws.{site-passed}
+
+entry-bounds : (e : Entry) → entryRanged e ≡ true → EntryBounds e
+unfolding entryRanged
+entry-bounds e p =
+    let a = leb (e .species) 8 in
+    let b = leb 1 (e .share) in
+    let c = leb (e .share) 100 in
+    let d = leb (e .«yield_kg») 20000 in
+    let abc = and-l (a && b && c) d p in
+    record {
+      species = leb-true (e .species) 8 (and-l a b (and-l (a && b) c abc));
+      share = leb-true (e .share) 100 (and-r (a && b) c abc);
+      yielded = leb-true (e .«yield_kg») 20000 (and-r (a && b && c) d p);
+    }
+
+no-entry-bounds : EntryBounds noEntry
+no-entry-bounds = record { species = omega arith; share = omega arith; yielded = omega arith }
+
+each-bounds : (es : List Entry) (n : ℕ) → allOf entryRanged (take n es) ≡ true → (i : ℕ) → i < n → EntryBounds (getD es i noEntry)
+each-bounds es n p i h =
+    ⊎-elim
+    (λ (past : length es ≤ i). rw (List·getD-eq-default es noEntry {n = i} past) no-entry-bounds)
+    (λ (within : i < length es).
+    let l : i < length (take n es) = simp length-take (omega arith) in
+    rw getD-take at (entry-bounds (getD (take n es) i noEntry) (all-at entryRanged (take n es) i noEntry l p)))
+    (le-or-lt (length es) i)
+
+pub stand-bounds : (s : Site) → countRule 7 s ≡ Passed → valueRule 7 s ≡ Passed → StandBounds (s .stand) (s .entries)
+unfolding countRule itemCount valueRule standRule
+stand-bounds s c v =
+    let n = s .entries in
+    record {
+      count = leb-true n 4 (and-r (leb 1 n) (leb n 4) (pass-then _ BadLength Passed c .0));
+      each = each-bounds (s .stand) n (pass-then (allOf entryRanged (take n (s .stand))) OutOfRange _ v .0);
+    }
+
+module _ (s : Site) (e : siteRule s ≡ Passed) where
+  value-at : (k : ℕ) → k < 15 → valueRule (getD due k 0) s ≡ Passed
+  value-at k h = site-passed s e k h .1
+
+  pub bounds : Bounds s
+  unfolding valueRule
+  bounds = record {
+    parent = between-passed 0 4 (s .parent) (value-at 1 (omega arith)) .1;
+    texture = leb-true ((s .clay) + s .sand) 100 (ranged-passed _ (value-at 2 (omega arith)));
+    depth = between-passed 1 200 (s .depth) (value-at 3 (omega arith)) .1;
+    drainage = between-passed 0 5 (s .drainage) (value-at 4 (omega arith)) .1;
+    percolation = between-passed 1 3000 (s .percolation) (value-at 5 (omega arith)) .1;
+    stand = stand-bounds s (site-passed s e 6 (omega arith) .0) (value-at 6 (omega arith));
+    immobilisation = between-passed 0 500 (s .immobilisation) (value-at 7 (omega arith)) .1;
+    available = between-passed 70 85 (s .available) (value-at 8 (omega arith)) .1;
+    deposition = between-passed 0 5000 (s .«base_deposition») (value-at 9 (omega arith)) .1;
+    ratio = between-passed 100 20000 (s .ratio) (value-at 10 (omega arith)) .0;
+    gibbsite = between-passed 1 10000 (s .gibbsite) (value-at 11 (omega arith)) .1;
+    ceiling = between-passed 1 5000 (s .ceiling) (value-at 12 (omega arith)) .1;
+    leachate = between-passed 1 1000 (s .leachate) (value-at 13 (omega arith)) .1;
+  }

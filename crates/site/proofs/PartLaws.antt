@@ -1,0 +1,53 @@
+-- Laws of loops over the first n elements of a list.
+use mathlib.Core.Path.{_≡_, refl}
+use mathlib.Core.Bool.{Bool, true, false}
+use mathlib.Core.List.{List, [], _∷_}
+use Prim.Native.Nat.{ℕ, zero, suc, _+_, _≤_, _<_}
+use native.Mathlib.Omega.{arith}
+use native.Mathlib.Numerals.{add-one}
+use lib.ListN.{length, getD, take, drop, length-take, drop-of-length-le}
+use lib.Seq.{drop-cons, getD-take}
+use Rattle.site.specs.Values.{allOf}
+use Rattle.site.proofs.Tests.{and-l, and-r}
+
+module _ {ℓ} {A : Type ℓ} where
+  -- what is left of the first n elements of l, from element i on
+  pub part-cons : (n i : ℕ) (l : List A) (d : A) → i < n → i < length l → drop i (take n l) ≡ getD l i d ∷ drop (i + 1) (take n l)
+  part-cons n i l d h k =
+      let b : i < length (take n l) = simp length-take (omega arith) in
+      rw (add-one, drop-cons (take n l) i d, getD-take n l i d)
+
+  pub part-end : (n i : ℕ) (l : List A) → n ≤ i → drop i (take n l) ≡ []
+  part-end n i l h = drop-of-length-le (take n l) {i = i} (simp length-take (omega arith))
+
+  pub part-past : (n i : ℕ) (l : List A) → length l ≤ i → drop i (take n l) ≡ []
+  part-past n i l h = drop-of-length-le (take n l) {i = i} (simp length-take (omega arith))
+
+  pub all-step : (f : A → Bool) (n i : ℕ) (l : List A) (d : A) → i < n → i < length l → f (getD l i d) ≡ true
+      → allOf f (drop i (take n l)) ≡ allOf f (drop (i + 1) (take n l))
+  unfolding allOf
+  all-step f n i l d h k e = rw (part-cons n i l d, e)
+
+  pub all-stop : (f : A → Bool) (n i : ℕ) (l : List A) (d : A) → i < n → i < length l → f (getD l i d) ≡ false
+      → allOf f (drop i (take n l)) ≡ false
+  unfolding allOf
+  all-stop f n i l d h k e = rw (part-cons n i l d, e)
+
+  pub all-at : (f : A → Bool) (l : List A) (i : ℕ) (d : A) → i < length l → allOf f l ≡ true → f (getD l i d) ≡ true
+  unfolding allOf
+  all-at f [] i d h e = absurd (omega arith)
+  all-at f (x ∷ l) zero d h e = and-l (f x) (allOf f l) e
+  all-at f (x ∷ l) (suc i) d h e = all-at f l i d (omega arith) (and-r (f x) (allOf f l) e)
+
+  -- a default that passes too spares the index's bound
+  pub all-getD : (f : A → Bool) (l : List A) (i : ℕ) (d : A) → f d ≡ true → allOf f l ≡ true → f (getD l i d) ≡ true
+  unfolding allOf
+  all-getD f [] i d p e = p
+  all-getD f (x ∷ l) zero d p e = and-l (f x) (allOf f l) e
+  all-getD f (x ∷ l) (suc i) d p e = all-getD f l i d p (and-r (f x) (allOf f l) e)
+
+  -- below the length the default does not matter
+  pub getD-within : (l : List A) (i : ℕ) (d e : A) → i < length l → getD l i d ≡ getD l i e
+  getD-within [] i d e h = absurd (omega arith)
+  getD-within (x ∷ l) zero d e h = refl
+  getD-within (x ∷ l) (suc i) d e h = getD-within l i d e (omega arith)

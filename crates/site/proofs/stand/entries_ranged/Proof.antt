@@ -1,0 +1,91 @@
+use mathlib.Core.Path.{_≡_, sym, _∙_}
+use Prim.Native.Nat.{_-_, _≤_, _<_}
+use native.Mathlib.Omega.{arith}
+use lib.ListN.{length, take, drop}
+use borrow.Author.Needs.{needs}
+use Rattle.site.specs.Values.{allOf, entryRanged}
+use Rattle.site.specs.Bounds.{noEntry}
+use Rattle.site.proofs.PartLaws.{part-end, part-past, all-step, all-stop}
+use Rattle.site.proofs.stand.entries_ranged.Statement.{statement}
+use Rattle.site.proofs.stand.entries_ranged.Tie as tie
+
+abbrev Inv-loop : tie.InvT-loop
+Inv-loop n stand count i₀ i = (i ≤ 4) × (allOf entryRanged (take n stand) ≡ allOf entryRanged (drop i (take n stand)))
+
+abbrev μ-loop : tie.MeasureT-loop
+μ-loop n stand count i₀ i = 4 - i
+
+-- what the loop reads is one of the first n, and of the array
+inside : (c : tie.Else1 Inv-loop μ-loop)
+    → (c .before .before .loop .i < c .before .before .before .before .args .n) × (c .before .before .loop .i < length (c .before .before .before .before .args .t1))
+inside c = let z : length (c .before .before .before .before .args .t1) ≡ 4 = search needs in (omega arith, omega arith)
+
+wide-requires : tie.Need-wide-requires Inv-loop μ-loop
+wide-requires c κs = search needs
+
+loop-holds : tie.Need-loop-holds Inv-loop μ-loop
+loop-holds c = search needs
+
+returns : tie.Need-returns Inv-loop μ-loop
+unfolding allOf
+returns c =
+    let a = c .before .before .before .before .args in
+    let h : a .n ≤ c .before .before .loop .i = omega arith in
+    rw (c .before .before .loop .inv .1, part-end (a .n) (c .before .before .loop .i) (a .t1) h)
+
+mul-e : tie.Need-mul-e Inv-loop μ-loop
+mul-e c = search needs
+
+array-copy-out-e : tie.Need-array-copy-out-e Inv-loop μ-loop
+array-copy-out-e c = search needs
+
+entry-ranged-requires : tie.Need-entry-ranged-requires Inv-loop μ-loop
+entry-ranged-requires c κs = search needs
+
+add-i : tie.Need-add-i Inv-loop μ-loop
+add-i c = search needs
+
+loop-less : tie.Need-loop-less Inv-loop μ-loop
+loop-less c = search needs
+
+loop-again : tie.Need-loop-again Inv-loop μ-loop
+loop-again c =
+    let r = c .before .before .before in
+    let i = inside r in
+    let a = r .before .before .before .before .args in (
+      search needs,
+      r .before .before .loop .inv .1 ∙ all-step entryRanged (a .n) (r .before .before .loop .i) (a .t1) noEntry (i .0) (i .1) (sym (c .before .entry-ranged .ensures) ∙ c .if2 .taken),
+    )
+
+returns-2 : tie.Need-returns-2 Inv-loop μ-loop
+returns-2 c =
+    let r = c .before .before .before in
+    let i = inside r in
+    let a = r .before .before .before .before .args in
+    sym (r .before .before .loop .inv .1 ∙ all-stop entryRanged (a .n) (r .before .before .loop .i) (a .t1) noEntry (i .0) (i .1) (sym (c .before .entry-ranged .ensures) ∙ c .if2 .left))
+
+returns-3 : tie.Need-returns-3 Inv-loop μ-loop
+unfolding allOf
+returns-3 c =
+    let a = c .before .before .before .args in
+    let z : length (a .t1) ≡ 4 = search needs in
+    let h : length (a .t1) ≤ c .before .loop .i = omega arith in
+    rw (c .before .loop .inv .1, part-past (a .n) (c .before .loop .i) (a .t1) h)
+
+pub entries-ranged-spec : {M : Type 1} → statement M
+entries-ranged-spec =
+    tie.close
+    (tie.spec
+    Inv-loop
+    μ-loop
+    wide-requires
+    loop-holds
+    returns
+    mul-e
+    array-copy-out-e
+    entry-ranged-requires
+    add-i
+    loop-less
+    loop-again
+    returns-2
+    returns-3)

@@ -1,0 +1,143 @@
+use mathlib.Core.Path.{sym}
+use borrow.Author.Needs.{needs}
+use Rattle.site.specs.Values.{valueRule}
+use Rattle.site.proofs.Passing.{with-number}
+use Rattle.site.proofs.MatchLaws.{none-below}
+use Rattle.site.proofs.FieldLaws.{value-none}
+use Rattle.site.proofs.value.field_rule.Statement.{statement}
+use Rattle.site.proofs.value.field_rule.Tie as tie
+
+name-rule-requires : tie.Need-name-rule-requires
+name-rule-requires c κs = search needs
+
+byte-between-requires : tie.Need-byte-between-requires
+byte-between-requires c κs = search needs
+
+texture-rule-requires : tie.Need-texture-rule-requires
+texture-rule-requires c κs = search needs
+
+byte-between-requires-2 : tie.Need-byte-between-requires-2
+byte-between-requires-2 c κs = search needs
+
+byte-between-requires-3 : tie.Need-byte-between-requires-3
+byte-between-requires-3 c κs = search needs
+
+word-between-requires : tie.Need-word-between-requires
+word-between-requires c κs = search needs
+
+stand-rule-requires : tie.Need-stand-rule-requires
+stand-rule-requires c κs = search needs
+
+word-between-requires-2 : tie.Need-word-between-requires-2
+word-between-requires-2 c κs = search needs
+
+byte-between-requires-4 : tie.Need-byte-between-requires-4
+byte-between-requires-4 c κs = search needs
+
+word-between-requires-3 : tie.Need-word-between-requires-3
+word-between-requires-3 c κs = search needs
+
+word-between-requires-4 : tie.Need-word-between-requires-4
+word-between-requires-4 c κs = search needs
+
+word-between-requires-5 : tie.Need-word-between-requires-5
+word-between-requires-5 c κs = search needs
+
+word-between-requires-6 : tie.Need-word-between-requires-6
+word-between-requires-6 c κs = search needs
+
+word-between-requires-7 : tie.Need-word-between-requires-7
+word-between-requires-7 c κs = search needs
+
+returns : tie.Need-returns
+unfolding valueRule
+returns c = with-number _ _ (rw (c .before .match .keys1) (c .name-rule .ensures))
+
+returns-2 : tie.Need-returns-2
+unfolding valueRule
+returns-2 c = with-number _ _ (rw (c .before .match .keys2) (c .byte-between .ensures))
+
+returns-3 : tie.Need-returns-3
+unfolding valueRule
+returns-3 c = with-number _ _ (rw (c .before .match .keys3) (c .texture-rule .ensures))
+
+returns-4 : tie.Need-returns-4
+unfolding valueRule
+returns-4 c = with-number _ _ (rw (c .before .match .keys4) (c .byte-between2 .ensures))
+
+returns-5 : tie.Need-returns-5
+unfolding valueRule
+returns-5 c = with-number _ _ (rw (c .before .match .keys5) (c .byte-between3 .ensures))
+
+returns-6 : tie.Need-returns-6
+unfolding valueRule
+returns-6 c = with-number _ _ (rw (c .before .match .keys6) (c .word-between .ensures))
+
+returns-7 : tie.Need-returns-7
+unfolding valueRule
+returns-7 c = with-number _ _ (rw (c .before .before .match .keys7) (c .stand-rule .ensures))
+
+returns-8 : tie.Need-returns-8
+unfolding valueRule
+returns-8 c = with-number _ _ (rw (c .before .match .keys8) (c .word-between2 .ensures))
+
+returns-9 : tie.Need-returns-9
+unfolding valueRule
+returns-9 c = with-number _ _ (rw (c .before .match .keys9) (c .byte-between4 .ensures))
+
+returns-10 : tie.Need-returns-10
+unfolding valueRule
+returns-10 c = with-number _ _ (rw (c .before .match .keys10) (c .word-between3 .ensures))
+
+returns-11 : tie.Need-returns-11
+unfolding valueRule
+returns-11 c = with-number _ _ (rw (c .before .match .keys11) (c .word-between4 .ensures))
+
+returns-12 : tie.Need-returns-12
+unfolding valueRule
+returns-12 c = with-number _ _ (rw (c .before .match .keys12) (c .word-between5 .ensures))
+
+returns-13 : tie.Need-returns-13
+unfolding valueRule
+returns-13 c = with-number _ _ (rw (c .before .match .keys13) (c .word-between6 .ensures))
+
+returns-14 : tie.Need-returns-14
+unfolding valueRule
+returns-14 c = with-number _ _ (rw (c .before .match .keys14) (c .word-between7 .ensures))
+
+returns-15 : tie.Need-returns-15
+returns-15 c = with-number _ _ (sym (value-none _ _ (none-below 14 (c .before .args .tag) (c .match .rest))))
+
+pub field-rule-spec : {M : Type 1} → statement M
+field-rule-spec =
+    tie.close
+    (tie.spec
+    name-rule-requires
+    byte-between-requires
+    texture-rule-requires
+    byte-between-requires-2
+    byte-between-requires-3
+    word-between-requires
+    stand-rule-requires
+    word-between-requires-2
+    byte-between-requires-4
+    word-between-requires-3
+    word-between-requires-4
+    word-between-requires-5
+    word-between-requires-6
+    word-between-requires-7
+    returns
+    returns-2
+    returns-3
+    returns-4
+    returns-5
+    returns-6
+    returns-7
+    returns-8
+    returns-9
+    returns-10
+    returns-11
+    returns-12
+    returns-13
+    returns-14
+    returns-15)

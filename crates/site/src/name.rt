@@ -1,0 +1,39 @@
+// Rule 8 for the name: A–Z, 0–9, hyphen.
+ghost use mathlib.Core.Path.{_≡_};
+ghost use lib.ListN.{take};
+ghost use Rattle.site.specs.Values.{nameByte, allOf};
+use crate::numbers::wide;
+
+fn name_byte(b: u8) -> bool
+    ensures { λ r. ⌜ r ≡ nameByte b ⌝ }
+{
+    if b < 48 {
+        return b == 45;
+    }
+    if b <= 57 {
+        return true;
+    }
+    if b < 65 {
+        return false;
+    }
+    b <= 90
+}
+
+pub fn name_ranged(name: [u8; 8], n: u8) -> bool
+    ensures { λ r. ⌜ r ≡ allOf nameByte (take n name) ⌝ }
+{
+    let count = wide(n);
+    let mut i: usize = 0;
+    while i < 8 {
+        if count <= i {
+            return true;
+        }
+        let b = name[i];
+        if name_byte(b) {
+            i = i + 1;
+        } else {
+            return false;
+        }
+    }
+    true
+}
