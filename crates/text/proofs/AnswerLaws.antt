@@ -14,36 +14,26 @@ use Rattle.site.specs.Refusal.{ruleNumber}
 use Rattle.text.specs.declared.Listed.{Listed}
 use Rattle.text.specs.declared.Listed.the-variants.{Bytes, Refused}
 use Rattle.text.specs.Writing.{Wrote}
-use Rattle.text.specs.Answer.{listedNumber, listedValue, answer, held, Numbered}
+use Rattle.text.specs.Answer.{listedNumbers, answer, answerNumbers, held, Enough}
 use Rattle.text.proofs.WriteLaws.{whole}
 
--- the three clauses of a call that writes text into d
+-- the clauses of a call that writes text into d
 abbrev pub Answered : List ℕ → List ℕ → List ℕ → Listed → Type 0
-Answered text d e r = (r ≡ answer text d) × ((e ≡ held text d) × Numbered text d r)
+Answered text d e r = (r ≡ answer text d) × ((e ≡ held text d) × ((listedNumbers r ≡ answerNumbers text d) × Enough text d r))
 
 pub refused : (text d : List ℕ) → length d < length text → length text ≤ 81551 → Answered text d d (Refused BufferShort 0)
-unfolding listedNumber listedValue ruleNumber
+unfolding listedNumbers ruleNumber
 refused text d h l =
-    let short = lt-leb (length text) (length d) h in (
-      rw short,
-      (
-        rw short,
-        record { number = rw short; value = rw short; enough = λ m. absurd (omega arith) },
-      ),
-    )
+    let short = lt-leb (length text) (length d) h in
+    (rw short, (rw short, (rw short, λ m. absurd (omega arith))))
 
 pub printed : {d e : List ℕ} {r : ℕ} (text : List ℕ) → Wrote d 0 text e r → length text ≤ length d → Answered text d e (Bytes r)
-unfolding listedNumber listedValue
+unfolding listedNumbers
 printed {d} {e} {r} text w h =
     let n : r ≡ length text = omega (arith, w .next) in
     let t : e ≡ text ++ drop (length text) d = whole w (omega arith) ∙ rw zero-add in
-    let long = le-leb (length text) (length d) h in (
-      rw long (ap Bytes n),
-      (
-        rw long t,
-        record { number = rw long; value = rw long n; enough = λ m. refl },
-      ),
-    )
+    let long = le-leb (length text) (length d) h in
+    (rw long (ap Bytes n), (rw long t, (rw long (ap (λ (k : ℕ). (0, k)) n), λ m. ap Bytes n)))
 
 -- where bytes were written, they are the text
 pub written : (text d e : List ℕ) (r : Listed) → Answered text d e r → (n : ℕ) → r ≡ Bytes n → take n e ≡ text

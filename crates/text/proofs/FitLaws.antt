@@ -9,7 +9,8 @@ use Rattle.judgement.specs.declared.Verdict.{Verdict}
 use Rattle.judgement.specs.declared.Verdict.the-variants.{Within, Over}
 use Rattle.text.specs.declared.Row.{Row}
 use Rattle.text.specs.Writing.{each}
-use Rattle.text.specs.Line.{noRow, mark, exceeded, loadNumbers, numbersOf, spaced, column, line, Narrow}
+use Rattle.judgement.specs.Verdicts.{verdictNumbers, verdictWord}
+use Rattle.text.specs.Line.{noRow, loadNumbers, numbersOf, spaced, column, line, Narrow}
 use Rattle.text.specs.Listing.{listing}
 use Rattle.text.proofs.DecimalLaws.{length-word}
 use Rattle.text.proofs.LineLaws.{length-line, length-listing}
@@ -28,8 +29,8 @@ column-most : (n : ℕ) → n < 2 ^ 64 → length (column n) ≤ 21
 unfolding column spaced
 column-most n h = omega (arith, length-word n h)
 
-three : (v : Verdict) → length (exceeded v) ≡ 3
-unfolding exceeded
+three : (v : Verdict) → length (verdictNumbers v) ≡ 3
+unfolding verdictNumbers
 three Within = refl
 three (Over g a n) = refl
 
@@ -37,8 +38,8 @@ seven : (r : Row) → length (numbersOf r) ≡ 7
 unfolding numbersOf loadNumbers
 seven r = omega (arith, three (r .verdict))
 
-mark-most : (v : Verdict) → length (mark v) ≤ 6
-unfolding mark
+mark-most : (v : Verdict) → length (verdictWord v) ≤ 6
+unfolding verdictWord
 mark-most Within = omega arith
 mark-most (Over g a n) = omega arith
 

@@ -9,11 +9,12 @@ use Rattle.site.specs.Refusal.{ruleNumber}
 use Rattle.text.specs.declared.Row.{Row}
 use Rattle.text.specs.Decimal.{decimal}
 use Rattle.text.specs.Writing.{each}
-use Rattle.text.specs.Line.{mark, numbersOf, nameText, spaced, column, body, line}
+use Rattle.judgement.specs.Verdicts.{verdictWord}
+use Rattle.text.specs.Line.{numbersOf, nameText, spaced, column, body, line}
 use Rattle.text.specs.Listing.{headText, header, listing}
 use Rattle.text.specs.Refusal.{refusal, numbered, refusedWord, atWord}
 
-pub length-line : (r : Row) → length (line r) ≡ length (nameText r) + length (each column (numbersOf r)) + length (mark (r .verdict)) + 2
+pub length-line : (r : Row) → length (line r) ≡ length (nameText r) + length (each column (numbersOf r)) + length (verdictWord (r .verdict)) + 2
 unfolding line body spaced
 length-line r = simp length-append (omega arith)
 

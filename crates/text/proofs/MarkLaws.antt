@@ -11,16 +11,17 @@ use Rattle.text.specs.declared.Row.{Row}
 use Rattle.text.specs.declared.Listed.{Listed}
 use Rattle.text.specs.Decimal.{decimal}
 use Rattle.text.specs.Writing.{each}
-use Rattle.text.specs.Line.{noRow, mark, numbersOf, nameText, spaced, column, body, line}
+use Rattle.judgement.specs.Verdicts.{verdictWord}
+use Rattle.text.specs.Line.{noRow, numbersOf, nameText, spaced, column, body, line}
 use Rattle.text.specs.Listing.{headText, header, listing}
-use Rattle.text.specs.Answer.{answer, held, Numbered}
+use Rattle.text.specs.Answer.{listedNumbers, answer, answerNumbers, held, Enough}
 use Rattle.text.specs.Words.{split, lastWord, lineAt, free}
 use Rattle.text.specs.Marks.{Plain, Marked}
 use Rattle.text.proofs.AnswerLaws.{Answered, written}
 use Rattle.text.proofs.WordLaws.{split-at, split-free, free-cons, free-append, free-decimal, free-each, lastWord-spaced}
 
-free-mark : (v : Verdict) → (free 10 (mark v) ≡ true) × (free 32 (mark v) ≡ true)
-unfolding mark free
+free-mark : (v : Verdict) → (free 10 (verdictWord v) ≡ true) × (free 32 (verdictWord v) ≡ true)
+unfolding verdictWord free
 free-mark Within = (refl, refl)
 free-mark (Over g a n) = (refl, refl)
 
@@ -70,19 +71,20 @@ pub line-of : (rs : List Row) (k : ℕ) → Plain rs → k < length rs → lineA
 unfolding lineAt
 line-of rs k h l = ap (λ (t : List (List ℕ)). getD t (suc k) []) (listing-lines rs h) ∙ getD-body rs k l
 
-pub body-mark : (r : Row) → lastWord (body r) ≡ mark (r .verdict)
+pub body-mark : (r : Row) → lastWord (body r) ≡ verdictWord (r .verdict)
 unfolding body
-body-mark r = lastWord-spaced (nameText r ++ each column (numbersOf r)) (mark (r .verdict)) (free-mark (r .verdict) .1)
+body-mark r = lastWord-spaced (nameText r ++ each column (numbersOf r)) (verdictWord (r .verdict)) (free-mark (r .verdict) .1)
 
 -- the mark of line k + 1 is that of row k
-pub mark-of : (rs : List Row) (k : ℕ) → Plain rs → k < length rs → lastWord (lineAt (suc k) (listing rs)) ≡ mark (getD rs k noRow .verdict)
+pub mark-of : (rs : List Row) (k : ℕ) → Plain rs → k < length rs → lastWord (lineAt (suc k) (listing rs)) ≡ verdictWord (getD rs k noRow .verdict)
 mark-of rs k h l = ap lastWord (line-of rs k h l) ∙ body-mark (getD rs k noRow)
 
 -- the same of what a call has written
 pub marked : (rs : List Row) (d e : List ℕ) (r : Listed) → Answered (listing rs) d e r → Marked rs e r
 marked rs d e r a n k b p l = rw (written (listing rs) d e r a n b) (mark-of rs k p l)
 
--- the four clauses of a call that lists, from the first three
+-- the clauses of a call that lists
 pub and-marked : (rs : List Row) (d : List ℕ) {e : List ℕ} {r : Listed} → Answered (listing rs) d e r
-    → (r ≡ answer (listing rs) d) × ((e ≡ held (listing rs) d) × (Numbered (listing rs) d r × Marked rs e r))
-and-marked rs d {e} {r} a = (a .0, (a .1 .0, (a .1 .1, marked rs d e r a)))
+    → (r ≡ answer (listing rs) d)
+    × ((e ≡ held (listing rs) d) × ((listedNumbers r ≡ answerNumbers (listing rs) d) × (Enough (listing rs) d r × Marked rs e r)))
+and-marked rs d {e} {r} a = (a .0, (a .1 .0, (a .1 .1 .0, (a .1 .1 .1, marked rs d e r a))))

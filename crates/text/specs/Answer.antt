@@ -10,26 +10,22 @@ use Rattle.site.specs.Refusal.{ruleNumber}
 use Rattle.text.specs.declared.Listed.{Listed}
 use Rattle.text.specs.declared.Listed.the-variants.{Bytes, Refused}
 
--- the number of document 01: that of the refusal, and 0 where there is none
-unfoldable pub listedNumber : Listed → ℕ
-listedNumber (Bytes n) = 0
-listedNumber (Refused rule at) = ruleNumber rule
+-- number of the refusal, or 0; then how many bytes were written, or the offset
+unfoldable pub listedNumbers : Listed → ℕ × ℕ
+listedNumbers (Bytes n) = (0, n)
+listedNumbers (Refused rule at) = (ruleNumber rule, at)
 
--- its value: the offset of the refusal, and how many bytes were written where there is none
-unfoldable pub listedValue : Listed → ℕ
-listedValue (Bytes n) = n
-listedValue (Refused rule at) = at
-
--- the answer where text is to be written into d
+-- what is answered where text is to be written into d: 11 at 0 exactly where d is shorter
 abbrev pub answer : List ℕ → List ℕ → Listed
 answer text d = pick (leb (length text) (length d)) (Bytes (length text)) (Refused BufferShort 0)
+
+abbrev pub answerNumbers : List ℕ → List ℕ → ℕ × ℕ
+answerNumbers text d = pick (leb (length text) (length d)) (0, length text) (11, 0)
 
 -- what d then holds
 abbrev pub held : List ℕ → List ℕ → List ℕ
 held text d = pick (leb (length text) (length d)) (text ++ drop (length text) d) d
 
--- the answer by number and value: 11 at 0 exactly where d is shorter than text; and 81551 bytes are enough
-pub record Numbered (text d : List ℕ) (r : Listed) : Type 0 where
-  pub number : listedNumber r ≡ pick (leb (length text) (length d)) 0 11
-  pub value : listedValue r ≡ pick (leb (length text) (length d)) (length text) 0
-  pub enough : 81551 ≤ length d → listedNumber r ≡ 0
+-- 81551 bytes are enough for every text of this crate
+abbrev pub Enough : List ℕ → List ℕ → Listed → Type 0
+Enough text d r = 81551 ≤ length d → r ≡ Bytes (length text)

@@ -3,9 +3,8 @@ use Prim.Native.Nat.{ℕ, _^_, _≤_, _<_}
 use mathlib.Core.List.{List, [], _∷_, _++_}
 use lib.ListN.{length, getD, take}
 use Rattle.loads.specs.declared.Loads.{Loads}
-use Rattle.judgement.specs.declared.Verdict.{Verdict}
-use Rattle.judgement.specs.declared.Verdict.the-variants.{Within, Over}
-use Rattle.judgement.specs.Regions.{regionNumber}
+use Rattle.judgement.specs.declared.Verdict.the-variants.{Within}
+use Rattle.judgement.specs.Verdicts.{verdictNumbers, verdictWord}
 use Rattle.text.specs.declared.Row.{Row}
 use Rattle.text.specs.Decimal.{decimal}
 use Rattle.text.specs.Writing.{each}
@@ -20,23 +19,13 @@ noRow =
       verdict = Within;
     }
 
--- `within` or `over`
-unfoldable pub mark : Verdict → List ℕ
-mark Within = 119 ∷ 105 ∷ 116 ∷ 104 ∷ 105 ∷ 110 ∷ []
-mark (Over g a n) = 111 ∷ 118 ∷ 101 ∷ 114 ∷ []
-
--- region, acid and nutrient exceedance
-unfoldable pub exceeded : Verdict → List ℕ
-exceeded Within = 0 ∷ 0 ∷ 0 ∷ []
-exceeded (Over g a n) = regionNumber g ∷ a ∷ n ∷ []
-
 -- CLmaxS, CLminN, CLmaxN, CLnutN
 unfoldable pub loadNumbers : Loads → List ℕ → List ℕ
 loadNumbers l ns = l .«max_s» ∷ l .«min_n» ∷ l .«max_n» ∷ l .«nut_n» ∷ ns
 
 -- the seven numbers of a line
 unfoldable pub numbersOf : Row → List ℕ
-numbersOf r = loadNumbers (r .loads) (exceeded (r .verdict))
+numbersOf r = loadNumbers (r .loads) (verdictNumbers (r .verdict))
 
 unfoldable pub nameText : Row → List ℕ
 nameText r = take (r .«name_len») (r .name)
@@ -50,7 +39,7 @@ column n = spaced (decimal n)
 
 -- a row's line without its end
 unfoldable pub body : Row → List ℕ
-body r = nameText r ++ each column (numbersOf r) ++ spaced (mark (r .verdict))
+body r = nameText r ++ each column (numbersOf r) ++ spaced (verdictWord (r .verdict))
 
 unfoldable pub line : Row → List ℕ
 line r = body r ++ (10 ∷ [])

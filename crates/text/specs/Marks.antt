@@ -7,7 +7,8 @@ use lib.ListN.{getD, length, take}
 use Rattle.text.specs.declared.Row.{Row}
 use Rattle.text.specs.declared.Listed.{Listed}
 use Rattle.text.specs.declared.Listed.the-variants.{Bytes}
-use Rattle.text.specs.Line.{nameText, noRow, mark}
+use Rattle.judgement.specs.Verdicts.{verdictWord}
+use Rattle.text.specs.Line.{nameText, noRow}
 use Rattle.text.specs.Words.{lastWord, lineAt, free}
 
 -- no name has a 0A
@@ -17,4 +18,4 @@ Plain rs = (k : ℕ) → k < length rs → free 10 (nameText (getD rs k noRow)) 
 -- in the listing that stands in the first bytes of out, the last word of line k + 1 is the mark of row k
 abbrev pub Marked : List Row → List ℕ → Listed → Type 0
 Marked rs out r =
-    (n k : ℕ) → r ≡ Bytes n → Plain rs → k < length rs → lastWord (lineAt (suc k) (take n out)) ≡ mark (getD rs k noRow .verdict)
+    (n k : ℕ) → r ≡ Bytes n → Plain rs → k < length rs → lastWord (lineAt (suc k) (take n out)) ≡ verdictWord (getD rs k noRow .verdict)

@@ -2,26 +2,13 @@
 ghost use mathlib.Core.Path.{_≡_};
 ghost use Prim.Native.Nat.{_+_, _≤_};
 ghost use lib.ListN.{length};
-ghost use Rattle.judgement.specs.Regions.{regionNumber};
 ghost use Rattle.text.specs.Writing.{Wrote, each};
 ghost use Rattle.text.specs.Line.{numbersOf, column};
 use crate::Row;
 use crate::decimal::put_decimal;
 use crate::decimal::width;
-use judgement::Region;
 use judgement::Verdict;
-
-fn region_number(g: Region) -> u64
-    ensures { λ r. ⌜ r ≡ regionNumber g ⌝ }
-{
-    match g {
-        Region::Unexceeded => 0,
-        Region::NoSulphur => 1,
-        Region::Slope => 2,
-        Region::Corner => 3,
-        Region::SulphurOnly => 4,
-    }
-}
+use judgement::region_number;
 
 pub fn numbers(row: Row) -> [u64; 7]
     ensures { λ r. ⌜ r ≡ numbersOf row ⌝ }

@@ -3,7 +3,8 @@ ghost use mathlib.Core.Path.{_≡_};
 ghost use Prim.Native.Nat.{_+_, _≤_};
 ghost use lib.ListN.{length, take};
 ghost use Rattle.text.specs.Writing.{Wrote};
-ghost use Rattle.text.specs.Line.{mark, nameText, spaced, line};
+ghost use Rattle.judgement.specs.Verdicts.{verdictWord};
+ghost use Rattle.text.specs.Line.{nameText, spaced, line};
 use crate::Row;
 use crate::columns::numbers;
 use crate::columns::numbers_len;
@@ -23,7 +24,7 @@ fn name_len(row: Row) -> usize
 }
 
 fn mark_len(v: Verdict) -> usize
-    ensures { λ r. ⌜ (r ≡ length (mark v)) × (r ≤ 6) ⌝ }
+    ensures { λ r. ⌜ (r ≡ length (verdictWord v)) × (r ≤ 6) ⌝ }
 {
     match v {
         Verdict::Within => 6,
@@ -37,8 +38,8 @@ fn mark_len(v: Verdict) -> usize
 
 // Writes a space and the mark.
 fn put_mark(out: &mut [u8], at: usize, v: Verdict) -> usize
-    requires { ⌜ at + length (spaced (mark v)) ≤ length (now out) ⌝ }
-    ensures { λ r. ⌜ Wrote (now (out .entry)) at (spaced (mark v)) (now (out .exit)) r ⌝ }
+    requires { ⌜ at + length (spaced (verdictWord v)) ≤ length (now out) ⌝ }
+    ensures { λ r. ⌜ Wrote (now (out .entry)) at (spaced (verdictWord v)) (now (out .exit)) r ⌝ }
 {
     match v {
         Verdict::Within => put_bytes(out, at, b" within"),

@@ -4,7 +4,7 @@ ghost use Prim.Native.Nat.{_+_, _≤_};
 ghost use lib.ListN.{length, take};
 ghost use Rattle.text.specs.Writing.{Wrote, each};
 ghost use Rattle.text.specs.Line.{line};
-ghost use Rattle.text.specs.Answer.{answer, held, Numbered};
+ghost use Rattle.text.specs.Answer.{listedNumbers, answer, answerNumbers, held, Enough};
 ghost use Rattle.text.specs.Listing.{listing};
 ghost use Rattle.text.specs.Marks.{Marked};
 use crate::Listed;
@@ -45,10 +45,11 @@ fn put_lines(out: &mut [u8], at: usize, rows: [Row; 500], count: usize) -> usize
 
 // Writes the listing of the first count rows at the start of out. A buffer that is too short stays as it is.
 pub fn put_listing(out: &mut [u8], rows: [Row; 500], count: usize) -> Listed
-    ensures { λ r. ⌜ r ≡ answer (listing (take count rows)) (now (out .entry)) ⌝ }
-    ensures { λ _. ⌜ now (out .exit) ≡ held (listing (take count rows)) (now (out .entry)) ⌝ }
-    ensures { λ r. ⌜ Numbered (listing (take count rows)) (now (out .entry)) r ⌝ }
-    ensures { λ r. ⌜ Marked (take count rows) (now (out .exit)) r ⌝ }
+    ensures answer { λ r. ⌜ r ≡ answer (listing (take count rows)) (now (out .entry)) ⌝ }
+    ensures buffer { λ _. ⌜ now (out .exit) ≡ held (listing (take count rows)) (now (out .entry)) ⌝ }
+    ensures numbers { λ r. ⌜ listedNumbers r ≡ answerNumbers (listing (take count rows)) (now (out .entry)) ⌝ }
+    ensures enough { λ r. ⌜ Enough (listing (take count rows)) (now (out .entry)) r ⌝ }
+    ensures marks { λ r. ⌜ Marked (take count rows) (now (out .exit)) r ⌝ }
 {
     let mut n = count;
     if 500 < n {

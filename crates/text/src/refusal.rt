@@ -1,37 +1,20 @@
 // The line of a refusal.
 ghost use mathlib.Core.Path.{_≡_};
-ghost use Rattle.site.specs.Refusal.{ruleNumber};
-ghost use Rattle.text.specs.Answer.{answer, held, Numbered};
+ghost use Rattle.text.specs.Answer.{listedNumbers, answer, answerNumbers, held, Enough};
 ghost use Rattle.text.specs.Refusal.{refusal};
 use crate::Listed;
 use crate::decimal::put_decimal;
 use crate::decimal::width;
 use crate::writing::put_bytes;
 use site::Rule;
-
-fn rule_number(rule: Rule) -> u64
-    ensures { λ r. ⌜ r ≡ ruleNumber rule ⌝ }
-{
-    match rule {
-        Rule::NoBytes => 1,
-        Rule::OuterCut => 2,
-        Rule::OuterTag => 3,
-        Rule::TooMany => 4,
-        Rule::InnerCut => 5,
-        Rule::InnerTag => 6,
-        Rule::BadLength => 7,
-        Rule::OutOfRange => 8,
-        Rule::NotRising => 9,
-        Rule::SharesNotWhole => 10,
-        Rule::BufferShort => 11,
-    }
-}
+use site::rule_number;
 
 // Writes the line `refused N at M` at the start of out. A buffer that is too short stays as it is.
 pub fn put_refusal(out: &mut [u8], rule: Rule, at: usize) -> Listed
-    ensures { λ r. ⌜ r ≡ answer (refusal rule at) (now (out .entry)) ⌝ }
-    ensures { λ _. ⌜ now (out .exit) ≡ held (refusal rule at) (now (out .entry)) ⌝ }
-    ensures { λ r. ⌜ Numbered (refusal rule at) (now (out .entry)) r ⌝ }
+    ensures answer { λ r. ⌜ r ≡ answer (refusal rule at) (now (out .entry)) ⌝ }
+    ensures buffer { λ _. ⌜ now (out .exit) ≡ held (refusal rule at) (now (out .entry)) ⌝ }
+    ensures numbers { λ r. ⌜ listedNumbers r ≡ answerNumbers (refusal rule at) (now (out .entry)) ⌝ }
+    ensures enough { λ r. ⌜ Enough (refusal rule at) (now (out .entry)) r ⌝ }
 {
     let number = rule_number(rule);
     let offset = at as u64;

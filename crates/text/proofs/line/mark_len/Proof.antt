@@ -1,7 +1,7 @@
 -- `text::line::mark_len` meets its contract.
 use borrow.Author.Needs.{needs}
 use native.Mathlib.Omega.{arith}
-use Rattle.text.specs.Line.{mark}
+use Rattle.judgement.specs.Verdicts.{verdictWord}
 use Rattle.text.proofs.line.mark_len.Statement.{statement}
 use Rattle.text.proofs.line.mark_len.Tie as tie
 
@@ -12,11 +12,11 @@ enum-told-2 : tie.Need-enum-told-2
 enum-told-2 c = search needs
 
 returns : tie.Need-returns
-unfolding mark
+unfolding verdictWord
 returns c = rw (c .enum-told .given .1) (omega arith)
 
 returns-2 : tie.Need-returns-2
-unfolding mark
+unfolding verdictWord
 returns-2 c = rw (c .enum-told2 .given .1) (omega arith)
 
 pub mark-len-spec : {M : Type 1} → statement M

@@ -6,7 +6,8 @@ use mathlib.Core.List.{List}
 use native.Mathlib.Omega.{arith}
 use lib.ListN.{length, length-set}
 use Rattle.text.specs.Writing.{each}
-use Rattle.text.specs.Line.{spaced, column, mark, body, line}
+use Rattle.judgement.specs.Verdicts.{verdictWord}
+use Rattle.text.specs.Line.{spaced, column, body, line}
 use Rattle.text.proofs.WriteLaws.{then, stored}
 use Rattle.text.proofs.LineLaws.{length-line}
 use Rattle.text.proofs.line.put_line.Statement.{statement}
@@ -17,7 +18,7 @@ abbrev s0 : tie.After-name2 → tie.Start
 s0 c = c .before .before .before .before .before .before
 
 room : (c : tie.After-name2)
-    → s0 c .args .at + c .before .before .before .before .name-len .result + length (each column (c .before .before .before .numbers .result)) + length (mark (s0 c .args .row .verdict)) + 2
+    → s0 c .args .at + c .before .before .before .before .name-len .result + length (each column (c .before .before .before .numbers .result)) + length (verdictWord (s0 c .args .row .verdict)) + 2
     ≤ length (s0 c .args .out .now)
 room c =
     let e = ap (λ (l : List ℕ). length (each column l)) (c .before .before .before .numbers .ensures) in
