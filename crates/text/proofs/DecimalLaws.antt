@@ -4,10 +4,10 @@ use mathlib.Core.Path.{_≡_, refl, sym, ap, _∙_}
 use mathlib.Core.Bool.{Bool, true, false}
 use mathlib.Core.List.{List, [], _∷_, _++_, append-assoc, append-nil}
 use native.Mathlib.Omega.{arith}
-use native.Mathlib.Nat.{pow-succ', one-mul, mul-assoc}
+use native.Mathlib.Nat.{pow-succ', zero-add, suc-add}
 use borrow.Author.Tests.{lt-ltb, le-ltb, ltb-true, ltb-false}
 use lib.Dec.{ltb}
-use lib.ListN.{length, getD, set, length-append}
+use lib.ListN.{length, set, length-append}
 use Rattle.text.specs.Writing.{write, Wrote}
 use Rattle.text.proofs.WriteLaws.{write-before}
 use Rattle.text.specs.Decimal.{dec, decimal}
@@ -89,24 +89,14 @@ length-above (suc k) n h =
 pub length-word : (n : ℕ) → n < 2 ^ 64 → length (decimal n) ≤ 20
 length-word n h = length-below 20 n (omega arith) (omega arith)
 
--- n powers of ten, the first of them p
-powers : ℕ → ℕ → List ℕ
-powers zero p = []
-powers (suc n) p = p ∷ powers n (p * 10)
+power-more : (d k : ℕ) → 10 ^ k ≤ 10 ^ (d + k)
+power-more zero k = rw zero-add (omega arith)
+power-more (suc d) k = rw (suc-add d k) (omega (arith, power-more d k, pow-succ' 10 (d + k)))
 
-powers-at : (n p k : ℕ) → k < n → getD (powers n p) k 0 ≡ p * 10 ^ k
-unfolding powers
-powers-at zero p k h = absurd (omega arith)
-powers-at (suc n) p zero h = let e : p ≡ p * 10 ^ 0 = omega arith in e
-powers-at (suc n) p (suc k) h = powers-at n (p * 10) k (omega arith) ∙ rw (pow-succ' 10 k, ← mul-assoc)
-
--- the table of the code
-abbrev pub tens : List ℕ
-tens = 1 ∷ 10 ∷ 100 ∷ 1000 ∷ 10000 ∷ 100000 ∷ 1000000 ∷ 10000000 ∷ 100000000 ∷ 1000000000 ∷ 10000000000 ∷ 100000000000 ∷ 1000000000000 ∷ 10000000000000 ∷ 100000000000000 ∷ 1000000000000000 ∷ 10000000000000000 ∷ 100000000000000000 ∷ 1000000000000000000 ∷ 10000000000000000000 ∷ []
-
-pub tens-at : (k : ℕ) → k < 20 → getD tens k 0 ≡ 10 ^ k
-unfolding powers
-tens-at k h = powers-at 20 1 k h ∙ one-mul (10 ^ k)
+pub power-mono : (k m : ℕ) → k ≤ m → 10 ^ k ≤ 10 ^ m
+power-mono k m h =
+    let e : m ≡ m - k + k = omega arith in
+    rw e (power-more (m - k) k)
 
 -- ---- a loop that writes n at index at of d, the last digit first: the buffer out has what follows the digits of rest, from i on
 pub record Partly (d : List ℕ) (at n : ℕ) (out : List ℕ) (i rest : ℕ) : Type 0 where

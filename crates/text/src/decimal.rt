@@ -5,42 +5,23 @@ ghost use lib.ListN.{length};
 ghost use Rattle.text.specs.Decimal.{decimal};
 ghost use Rattle.text.specs.Writing.{Wrote};
 
-// TENS[k] is 10 to the power k.
-const TENS: [u64; 20] = [
-    1,
-    10,
-    100,
-    1000,
-    10000,
-    100000,
-    1000000,
-    10000000,
-    100000000,
-    1000000000,
-    10000000000,
-    100000000000,
-    1000000000000,
-    10000000000000,
-    100000000000000,
-    1000000000000000,
-    10000000000000000,
-    100000000000000000,
-    1000000000000000000,
-    10000000000000000000,
-];
-
-// How many decimal digits n has.
+// How many decimal digits n has: `bound` is 10 to the power k.
 pub fn width(n: u64) -> usize
     ensures { λ r. ⌜ (r ≡ length (decimal n)) × (r ≤ 20) ⌝ }
 {
     let mut k = 1;
-    while k < 20 {
-        if n < TENS[k] {
+    let mut bound = 10;
+    while k < 19 {
+        if n < bound {
             return k;
         }
+        bound *= 10;
         k += 1;
     }
-    k
+    if n < bound {
+        return 19;
+    }
+    20
 }
 
 // Writes n at index at, the last digit first, and returns the index after it.
