@@ -2,9 +2,13 @@
 use Prim.Native.Nat.{ℕ, _-_}
 use mathlib.Core.Path.{_≡_, refl, sym, _∙_, ap}
 use mathlib.Core.Logic.{_↔_}
+use native.Mathlib.Omega.{arith}
 use Rattle.site.specs.Check.{siteRule}
 use Rattle.site.specs.declared.Site.{Site}
-use Rattle.site.specs.declared.Checked.the-variants.{Passed}
+use Rattle.site.specs.declared.Rule.{Rule}
+use Rattle.site.specs.Refusal.{valuesIf}
+use Rattle.site.specs.declared.Checked.{Checked}
+use Rattle.site.specs.declared.Checked.the-variants.{Passed, Broken}
 use Rattle.site.proofs.BoundsLaw.{bounds}
 use Rattle.loads.specs.CriticalLoads.{loadsOf}
 use Rattle.loads.specs.Nitrogen.{retained}
@@ -16,7 +20,7 @@ use Rattle.judgement.specs.declared.JudgementAnswer.{JudgementAnswer}
 use Rattle.judgement.specs.declared.JudgementAnswer.the-variants.{Given, Refused}
 use Rattle.judgement.specs.Balance.{Closes}
 use Rattle.judgement.specs.Regions.{regionOf, acidOf}
-use Rattle.judgement.specs.Verdicts.{region, acidExceedance, nutrientExceedance, verdictOf, verdict, judgedOf, judgementIf, judgementAnswer, judgementValues}
+use Rattle.judgement.specs.Verdicts.{region, acidExceedance, nutrientExceedance, verdictOf, verdict, judgedOf, judgementIf, judgementAnswer, judgedValues, judgementValues}
 use Rattle.judgement.proofs.Demand3.{within-iff-closes}
 
 -- a site that passes the check is judged
@@ -26,6 +30,25 @@ given s p = rw p
 
 judged-in : {j k : Judged} → Given j ≡ Given k → j ≡ k
 judged-in e = cc
+
+-- what an answer says of its site
+given-if : (c : Checked) (j k : Judged) → judgementIf c j ≡ Given k → (c ≡ Passed) × (k ≡ j)
+unfolding judgementIf
+given-if Passed j k e = (refl, cc)
+given-if (Broken r) j k e = let z : _≡_ {A = ℕ} 0 1 = cc in absurd (omega arith)
+
+refused-if : (c : Checked) (j : Judged) (r : Rule) → judgementIf c j ≡ Refused r → c ≡ Broken r
+unfolding judgementIf
+refused-if Passed j r e = let z : _≡_ {A = ℕ} 0 1 = cc in absurd (omega arith)
+refused-if (Broken k) j r e = cc
+
+pub judged : (s : Site) (j : Judged) → judgementAnswer s ≡ Given j → (siteRule s ≡ Passed) × (j ≡ judgedOf s)
+unfolding judgementAnswer
+judged s j e = given-if (siteRule s) (judgedOf s) j e
+
+pub refused : (s : Site) (r : Rule) → judgementAnswer s ≡ Refused r → siteRule s ≡ Broken r
+unfolding judgementAnswer
+refused s r e = refused-if (siteRule s) (judgedOf s) r e
 
 verdict-in : {l : Loads} {v w : Verdict} → Given (record { loads = l; verdict = v }) ≡ Given (record { loads = l; verdict = w }) → v ≡ w
 verdict-in e = ap (λ (j : Judged). j .verdict) (judged-in e)
@@ -46,8 +69,14 @@ module _ (s : Site) (r : JudgementAnswer) (is : r ≡ judgementAnswer s) where
         λ k. is ∙ given s p ∙ ap (λ v. Given (record { loads = loadsOf s; verdict = v })) (iff .1 k),
       )
 
+  values-if : (c : Checked) (j : Judged) → judgementValues (judgementIf c j) ≡ valuesIf c (judgedValues j)
+  unfolding judgementValues judgementIf valuesIf
+  values-if Passed j = refl
+  values-if (Broken k) j = refl
+
   pub whole :
       (r ≡ judgementAnswer s)
-      × ((judgementValues r ≡ judgementValues (judgementAnswer s))
+      × ((judgementValues r ≡ valuesIf (siteRule s) (judgedValues (judgedOf s)))
       × (siteRule s ≡ Passed → (r ≡ Given (record { loads = loadsOf s; verdict = Within })) ↔ Closes s (s .sulphur) (s .nitrogen)))
-  whole = (is, (ap judgementValues is, within))
+  unfolding judgementAnswer
+  whole = (is, (ap judgementValues is ∙ values-if (siteRule s) (judgedOf s), within))

@@ -59,7 +59,10 @@ unfoldable pub judgementAnswer : Site → JudgementAnswer
 judgementAnswer s = judgementIf (siteRule s) (judgedOf s)
 
 -- the values of each case: the loads, region and exceedances, and the word's bytes; or the refusal's number and offset
-unfoldable pub judgementValues : JudgementAnswer → List ℕ
-judgementValues (Given j) =
+unfoldable pub judgedValues : Judged → List ℕ
+judgedValues j =
     (j .loads .«max_s» ∷ j .loads .«min_n» ∷ j .loads .«max_n» ∷ j .loads .«nut_n» ∷ verdictNumbers (j .verdict)) ++ verdictWord (j .verdict)
+
+unfoldable pub judgementValues : JudgementAnswer → List ℕ
+judgementValues (Given j) = judgedValues j
 judgementValues (Refused r) = ruleNumber r ∷ 0 ∷ []

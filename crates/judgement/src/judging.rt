@@ -3,10 +3,11 @@ ghost use mathlib.Core.Path.{_≡_};
 ghost use mathlib.Core.Logic.{_↔_};
 ghost use Prim.Native.Nat.{_-_, _≤_};
 ghost use Rattle.site.specs.Check.{siteRule};
+ghost use Rattle.site.specs.Refusal.{valuesIf};
 ghost use Rattle.site.specs.declared.Checked.the-variants.{Passed};
 ghost use Rattle.loads.specs.CriticalLoads.{loadsOf};
 ghost use Rattle.judgement.specs.Regions.{regionOf, acidOf};
-ghost use Rattle.judgement.specs.Verdicts.{verdictOf, judgementAnswer, judgementValues};
+ghost use Rattle.judgement.specs.Verdicts.{verdictOf, judgedOf, judgedValues, judgementAnswer, judgementValues};
 ghost use Rattle.judgement.specs.Balance.{Closes};
 use crate::Judged;
 use crate::JudgementAnswer;
@@ -67,7 +68,7 @@ fn verdict_at(l: Loads, e: u64, s: u16, n: u16) -> Verdict
 // The loads of a site and the verdict on its own pair, or the first rule that it breaks.
 pub fn judge(site: Site) -> JudgementAnswer
     ensures answer { λ r. ⌜ r ≡ judgementAnswer site ⌝ }
-    ensures values { λ r. ⌜ judgementValues r ≡ judgementValues (judgementAnswer site) ⌝ }
+    ensures values { λ r. ⌜ judgementValues r ≡ valuesIf (siteRule site) (judgedValues (judgedOf site)) ⌝ }
     ensures demand3 { λ r. ⌜ (siteRule site ≡ Passed → ((r ≡ JudgementAnswer.Given (record { loads = loadsOf site; verdict = Verdict.Within })) ↔ Closes site (site .sulphur) (site .nitrogen))) ⌝ }
 {
     match critical_loads(site) {

@@ -1,8 +1,10 @@
 -- What an answer of the loads says of its site.
 use Prim.Native.Nat.{ℕ}
-use mathlib.Core.Path.{_≡_, refl}
+use mathlib.Core.Path.{_≡_, refl, _∙_, ap}
+use mathlib.Core.List.{[], _∷_}
 use native.Mathlib.Omega.{arith}
 use Rattle.site.specs.Check.{siteRule}
+use Rattle.site.specs.Refusal.{valuesIf}
 use Rattle.site.specs.declared.Site.{Site}
 use Rattle.site.specs.declared.Rule.{Rule}
 use Rattle.site.specs.declared.Checked.{Checked}
@@ -10,7 +12,7 @@ use Rattle.site.specs.declared.Checked.the-variants.{Passed, Broken}
 use Rattle.loads.specs.declared.Loads.{Loads}
 use Rattle.loads.specs.declared.LoadsAnswer.{LoadsAnswer}
 use Rattle.loads.specs.declared.LoadsAnswer.the-variants.{Given, Refused}
-use Rattle.loads.specs.CriticalLoads.{loadsOf, loadsIf, loadsAnswer}
+use Rattle.loads.specs.CriticalLoads.{maxS, minN, maxN, nutN, loadsOf, loadsIf, loadsAnswer, loadsValues}
 
 clash : {r : Rule} {l : Loads} → Given l ≡ Refused r → ⊥
 clash e = let z : _≡_ {A = ℕ} 0 1 = cc in omega arith
@@ -33,3 +35,15 @@ module _ (s : Site) where
   pub refused : (r : Rule) → loadsAnswer s ≡ Refused r → siteRule s ≡ Broken r
   unfolding loadsAnswer
   refused r e = refused-if (siteRule s) (loadsOf s) r e
+
+  values-if : (c : Checked) → loadsValues (loadsIf c (loadsOf s)) ≡ valuesIf c (maxS s ∷ minN s ∷ maxN s ∷ nutN s ∷ [])
+  unfolding loadsValues loadsIf loadsOf valuesIf
+  values-if Passed = refl
+  values-if (Broken r) = refl
+
+  -- all that the call promises, from its equation
+  pub whole :
+      (r : LoadsAnswer) → r ≡ loadsAnswer s
+      → (r ≡ loadsAnswer s) × (loadsValues r ≡ valuesIf (siteRule s) (maxS s ∷ minN s ∷ maxN s ∷ nutN s ∷ []))
+  unfolding loadsAnswer
+  whole r is = (is, ap loadsValues is ∙ values-if (siteRule s))

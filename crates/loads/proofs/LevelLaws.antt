@@ -1,15 +1,22 @@
 -- The hydrogen level: hydrogen and aluminium grow with it, and the level of the definition is allowed and the greatest allowed.
 use Prim.Native.Nat.{ℕ, zero, suc, _*_, _^_, _≤_, _<_}
 use mathlib.Core.Bool.{Bool, true}
-use mathlib.Core.Path.{_≡_}
+use mathlib.Core.Path.{_≡_, refl, _∙_, ap}
+use mathlib.Core.List.{[], _∷_}
 use native.Mathlib.Omega.{arith}
 use native.Mathlib.Nat.{mul-zero, one-mul, mul-le-mul, mul-le-mul-left, pow-suc, pow-zero, pow-le-pow-left, le-trans}
 use borrow.Author.Tests.{le-leb, lt-leb, leb-true}
 use lib.Dec.{leb}
-use Rattle.loads.specs.Hydrogen.{hydrogenOf, alOf, levelOf, inside}
+use Rattle.site.specs.declared.Checked.{Checked}
+use Rattle.site.specs.declared.Checked.the-variants.{Passed, Broken}
+use Rattle.site.specs.Refusal.{andThen, valuesIf}
+use Rattle.site.specs.Values.{between}
+use Rattle.site.proofs.Passing.{both-passed, between-passed}
+use Rattle.loads.specs.declared.LevelAnswer.{LevelAnswer}
+use Rattle.loads.specs.Conditions.{Levels}
+use Rattle.loads.specs.Hydrogen.{hydrogenOf, alOf, levelOf, levelRule, levelIf, levelAnswer, levelValues}
 use Rattle.loads.proofs.GreatestLaws.{greatest-le, greatest-passes, greatest-most, greatest-unique}
 use Rattle.loads.proofs.Numbers.{div-mono}
-use Rattle.site.proofs.Tests.{and-r}
 
 module _ (q k : ℕ) where
   pub hydrogenOf-mono : {i j : ℕ} → i ≤ j → hydrogenOf q i ≤ hydrogenOf q j
@@ -77,7 +84,27 @@ pub alOf-bound : {q k h : ℕ} → q ≤ 3000 → k ≤ 10000 → h ≤ 5000 →
 unfolding alOf
 alOf-bound {q} {k} {h} a b c = rw (cube h) (omega (arith, al-le a b c))
 
--- what the test of a range gives
-pub inside-le : (x least most : ℕ) → inside x least most ≡ true → x ≤ most
-unfolding inside
-inside-le x least most h = leb-true x most (and-r (leb least x) (leb x most) h)
+-- what rule 8 gives of the numbers of the search
+pub level-passed : (q k ceiling : ℕ) → levelRule q k ceiling ≡ Passed → Levels q k ceiling
+unfolding levelRule
+level-passed q k ceiling e =
+    let first = both-passed (between 1 3000 q) (andThen (between 1 10000 k) (between 1 5000 ceiling)) e in
+    let second = both-passed (between 1 10000 k) (between 1 5000 ceiling) (first .1) in
+    record {
+      percolation = between-passed 1 3000 q (first .0) .1;
+      gibbsite = between-passed 1 10000 k (second .0) .1;
+      level = between-passed 1 5000 ceiling (second .1) .1;
+    }
+
+-- all that the search promises, from its equation
+module _ (q k limit ceiling : ℕ) where
+  values-if : (c : Checked) → levelValues (levelIf c (levelOf q k limit ceiling)) ≡ valuesIf c (levelOf q k limit ceiling ∷ [])
+  unfolding levelValues levelIf valuesIf
+  values-if Passed = refl
+  values-if (Broken r) = refl
+
+  pub whole :
+      (r : LevelAnswer) → r ≡ levelAnswer q k limit ceiling
+      → (r ≡ levelAnswer q k limit ceiling) × (levelValues r ≡ valuesIf (levelRule q k ceiling) (levelOf q k limit ceiling ∷ []))
+  unfolding levelAnswer
+  whole r is = (is, ap levelValues is ∙ values-if (levelRule q k ceiling))

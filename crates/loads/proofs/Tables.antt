@@ -10,7 +10,6 @@ use lib.Dec.{leb, eqb}
 use lib.ListN.{getD, List·getD-eq-default}
 use Rattle.site.proofs.Tests.{le-or-lt, and-l, and-r}
 use Rattle.loads.specs.Weathering.{classOf}
-use Rattle.loads.specs.Uptake.{content}
 use Rattle.loads.specs.Nitrogen.{denitrified, retainedOf}
 
 pub lt-or-le : (a b : ℕ) → (a < b) ⊎ (b ≤ a)
@@ -45,12 +44,6 @@ pub class-pos : (p t : ℕ) → p ≤ 4 → (p ≡ 0 → ⊥) → 1 ≤ t → t 
 class-pos p t h n i j =
     let here : eqb p 0 || leb 1 (classOf p t) ≡ true = and-r (leb (classOf p t) 20) _ (class-tested p t h i j) in
     leb-true 1 (classOf p t) (rw (ne-eqb p 0 n) at here)
-
-pub content-le : (species element : ℕ) → species ≤ 8 → element < 4 → content species element ≤ 14993
-unfolding content
-content-le s i h l =
-    leb-true _ _
-    (one-below (λ i. leb (content s i) 14993) 4 (one-below (λ s. allBelow (λ i. leb (content s i) 14993) 4) 9 refl s (omega arith)) i l)
 
 pub retained-le : (d : ℕ) → retainedOf d ≤ 1000
 unfolding retainedOf

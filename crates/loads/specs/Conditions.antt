@@ -16,15 +16,15 @@ pub record Levels (q k h : ℕ) : Type 0 where
 pub record Weighed (e : Entry) (n b : ℕ) : Type 0 where
   pub nitrogen : n ≡ weightOf nitrogenIn e
   pub base : b ≡ weightOf baseIn e
-  pub nitrogen-le : n ≤ 90000000000
-  pub base-le : b ≤ 90000000000
+  pub nitrogen-le : n ≤ 131070000000
+  pub base-le : b ≤ 393210000000
 
 -- the sums over the first k entries
 pub record Summed (stand : List Entry) (k n b : ℕ) : Type 0 where
   pub nitrogen : n ≡ standSum nitrogenIn stand k
   pub base : b ≡ standSum baseIn stand k
-  pub nitrogen-le : n ≤ 360000000000
-  pub base-le : b ≤ 360000000000
+  pub nitrogen-le : n ≤ 524280000000
+  pub base-le : b ≤ 1572840000000
 
 -- base deposition, percolation, W, w, ratio, gibbsite constant and ceiling
 pub record AcidBounds (b q weathered available ratio k ceiling : ℕ) : Type 0 where

@@ -1,12 +1,14 @@
 -- The aluminium limit, and the hydrogen level: whole tenths of meq per cubic metre.
 use Prim.Native.Nat.{ℕ, zero, suc, _+_, _*_, _-_, _/_, _^_}
-use mathlib.Core.Bool.{Bool, _&&_}
+use mathlib.Core.Bool.{Bool}
 use mathlib.Core.List.{List, [], _∷_}
 use lib.Dec.{leb}
 use Rattle.site.specs.Choice.{pick}
-use Rattle.site.specs.Refusal.{ruleNumber}
+use Rattle.site.specs.Refusal.{ruleNumber, andThen}
+use Rattle.site.specs.Values.{between}
 use Rattle.site.specs.declared.Site.{Site}
-use Rattle.site.specs.declared.Rule.the-variants.{OutOfRange}
+use Rattle.site.specs.declared.Checked.{Checked}
+use Rattle.site.specs.declared.Checked.the-variants.{Passed, Broken}
 use Rattle.loads.specs.declared.LevelAnswer.{LevelAnswer}
 use Rattle.loads.specs.declared.LevelAnswer.the-variants.{Greatest, Refused}
 use Rattle.loads.specs.Weathering.{availableWeathering}
@@ -47,17 +49,16 @@ greatestLevel s = levelOf (s .percolation) (s .gibbsite) (aluminiumLimit s) (s .
 unfoldable pub criticalLeaching : Site → ℕ
 criticalLeaching s = hydrogen s (greatestLevel s) + aluminium s (greatestLevel s)
 
--- the answer of the search: 8 where a number is outside its field's range
-unfoldable pub inside : (x least most : ℕ) → Bool
-inside x least most = leb least x && leb x most
+-- rule 8 for the numbers of the search
+unfoldable pub levelRule : (q k ceiling : ℕ) → Checked
+levelRule q k ceiling = andThen (between 1 3000 q) (andThen (between 1 10000 k) (between 1 5000 ceiling))
+
+unfoldable pub levelIf : Checked → ℕ → LevelAnswer
+levelIf Passed h = Greatest h
+levelIf (Broken r) h = Refused r
 
 unfoldable pub levelAnswer : (q k limit ceiling : ℕ) → LevelAnswer
-levelAnswer q k limit ceiling =
-    pick (inside q 1 3000)
-    (pick (inside k 1 10000)
-    (pick (inside ceiling 1 5000) (Greatest (levelOf q k limit ceiling)) (Refused OutOfRange))
-    (Refused OutOfRange))
-    (Refused OutOfRange)
+levelAnswer q k limit ceiling = levelIf (levelRule q k ceiling) (levelOf q k limit ceiling)
 
 -- the values of each case: the level, or the refusal's number and offset
 unfoldable pub levelValues : LevelAnswer → List ℕ

@@ -1,9 +1,12 @@
 // The four loads of a site.
 ghost use mathlib.Core.Path.{_≡_};
 ghost use Prim.Native.Nat.{_+_, _*_, _/_, _≤_};
+ghost use mathlib.Core.List.{[], _∷_};
 ghost use Rattle.site.specs.Bounds.{Bounds};
+ghost use Rattle.site.specs.Check.{siteRule};
+ghost use Rattle.site.specs.Refusal.{valuesIf};
 ghost use Rattle.loads.specs.Uptake.{baseDemand};
-ghost use Rattle.loads.specs.CriticalLoads.{maxS, loadsOf, loadsAnswer, loadsValues};
+ghost use Rattle.loads.specs.CriticalLoads.{maxS, minN, maxN, nutN, loadsOf, loadsAnswer, loadsValues};
 ghost use Rattle.loads.specs.Conditions.{AcidBounds, NitrogenBounds, acidLoad};
 use crate::Loads;
 use crate::LoadsAnswer;
@@ -91,7 +94,7 @@ fn loads_of(s: Site) -> Loads
 // The loads of a site, or the first rule that it breaks.
 pub fn critical_loads(site: Site) -> LoadsAnswer
     ensures answer { λ r. ⌜ r ≡ loadsAnswer site ⌝ }
-    ensures values { λ r. ⌜ loadsValues r ≡ loadsValues (loadsAnswer site) ⌝ }
+    ensures values { λ r. ⌜ loadsValues r ≡ valuesIf (siteRule site) (maxS site ∷ minN site ∷ maxN site ∷ nutN site ∷ []) ⌝ }
 {
     match check_site(site) {
         Checked::Broken(rule) => LoadsAnswer::Refused(rule),

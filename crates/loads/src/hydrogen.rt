@@ -1,11 +1,14 @@
 // The aluminium limit, and the hydrogen level.
 ghost use mathlib.Core.Path.{_≡_};
 ghost use Prim.Native.Nat.{_+_, _*_, _/_, _≤_, _<_};
-ghost use Rattle.loads.specs.Hydrogen.{hydrogenOf, alOf, levelOf, inside, levelAnswer, levelValues};
+ghost use mathlib.Core.List.{[], _∷_};
+ghost use Rattle.site.specs.Refusal.{valuesIf};
+ghost use Rattle.loads.specs.Hydrogen.{hydrogenOf, alOf, levelOf, levelRule, levelAnswer, levelValues};
 ghost use Rattle.loads.specs.Conditions.{Levels};
 use crate::LevelAnswer;
 use crate::widen::wide16;
-use site::Rule;
+use site::Checked;
+use site::word_between;
 
 // A: left is B + w − Bu
 pub fn aluminium_limit(left: u64, ratio: u64) -> u64
@@ -53,28 +56,31 @@ pub fn critical_leaching(q: u64, k: u64, limit: u64, ceiling: u64) -> u64
     q * h / 1000 + aluminium_at(q, k, h)
 }
 
-fn is_inside(x: u16, least: u16, most: u16) -> bool
-    ensures { λ r. ⌜ r ≡ inside x least most ⌝ }
+// Rule 8 for percolation, gibbsite constant and hydrogen ceiling.
+fn level_rule(q: u16, k: u16, ceiling: u16) -> Checked
+    ensures { λ r. ⌜ r ≡ levelRule q k ceiling ⌝ }
 {
-    if x < least {
-        return false;
+    match word_between(1, 3000, q) {
+        Checked::Broken(rule) => Checked::Broken(rule),
+        Checked::Passed => match word_between(1, 10000, k) {
+            Checked::Broken(rule) => Checked::Broken(rule),
+            Checked::Passed => word_between(1, 5000, ceiling),
+        },
     }
-    x <= most
 }
 
 // The greatest allowed level for percolation q, gibbsite constant k, aluminium limit and hydrogen ceiling.
 pub fn greatest_level(q: u16, k: u16, limit: u64, ceiling: u16) -> LevelAnswer
     ensures answer { λ r. ⌜ r ≡ levelAnswer q k limit ceiling ⌝ }
-    ensures values { λ r. ⌜ levelValues r ≡ levelValues (levelAnswer q k limit ceiling) ⌝ }
+    ensures values { λ r. ⌜ levelValues r ≡ valuesIf (levelRule q k ceiling) (levelOf q k limit ceiling ∷ []) ⌝ }
 {
-    if !is_inside(q, 1, 3000) {
-        return LevelAnswer::Refused(Rule::OutOfRange);
+    match level_rule(q, k, ceiling) {
+        Checked::Broken(rule) => LevelAnswer::Refused(rule),
+        Checked::Passed => LevelAnswer::Greatest(level(
+            wide16(q),
+            wide16(k),
+            limit,
+            wide16(ceiling),
+        )),
     }
-    if !is_inside(k, 1, 10000) {
-        return LevelAnswer::Refused(Rule::OutOfRange);
-    }
-    if !is_inside(ceiling, 1, 5000) {
-        return LevelAnswer::Refused(Rule::OutOfRange);
-    }
-    LevelAnswer::Greatest(level(wide16(q), wide16(k), limit, wide16(ceiling)))
 }

@@ -3,15 +3,16 @@ ghost use mathlib.Core.Path.{_≡_};
 ghost use Prim.Native.Nat.{_*_, _/_, _≤_};
 ghost use Rattle.loads.specs.Nitrogen.{denitrified, retainedOf};
 use crate::widen::index8;
+use crate::widen::wide16;
 
 // d, per mille, by drainage.
-const DENITRIFIED: [u64; 6] = [0, 100, 200, 400, 700, 800];
+const DENITRIFIED: [u16; 6] = [0, 100, 200, 400, 700, 800];
 
 fn denitrified_in(drainage: usize) -> u64
     requires { ⌜ drainage ≤ 5 ⌝ }
     ensures { λ r. ⌜ (r ≡ denitrified drainage) × (r ≤ 1000) ⌝ }
 {
-    DENITRIFIED[drainage]
+    wide16(DENITRIFIED[drainage])
 }
 
 // e, per mille; past the classes nothing is denitrified.

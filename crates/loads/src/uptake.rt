@@ -1,8 +1,10 @@
 // What a stand takes up.
 ghost use mathlib.Core.Path.{_≡_};
-ghost use Prim.Native.Nat.{_<_, _≤_};
+ghost use mathlib.Core.List.{[]};
+ghost use Prim.Native.Nat.{_≤_};
+ghost use lib.ListN.{getD};
 ghost use Rattle.site.specs.Bounds.{EntryBounds, StandBounds};
-ghost use Rattle.loads.specs.Uptake.{content as Uptake·content, baseUptakeOf};
+ghost use Rattle.loads.specs.Uptake.{speciesTable, baseUptakeOf};
 ghost use Rattle.loads.specs.Conditions.{Weighed, Summed};
 use crate::widen::index8;
 use crate::widen::wide8;
@@ -10,7 +12,7 @@ use crate::widen::wide16;
 use site::Entry;
 
 // The species table: Ca, Mg, K, N in hundredths of eq per tonne.
-const CONTENTS: [[u64; 4]; 9] = [
+const CONTENTS: [[u16; 4]; 9] = [
     [5389, 1980, 1660, 7782],
     [7036, 1480, 1970, 8710],
     [8982, 2140, 3580, 10357],
@@ -22,11 +24,12 @@ const CONTENTS: [[u64; 4]; 9] = [
     [8483, 2470, 3330, 9995],
 ];
 
-fn content(species: usize, element: usize) -> u64
-    requires { ⌜ (species ≤ 8) × (element < 4) ⌝ }
-    ensures { λ r. ⌜ (r ≡ Uptake·content species element) × (r ≤ 14993) ⌝ }
+// The contents of a species.
+fn contents_of(species: usize) -> [u16; 4]
+    requires { ⌜ species ≤ 8 ⌝ }
+    ensures { λ r. ⌜ r ≡ getD speciesTable species [] ⌝ }
 {
-    CONTENTS[species][element]
+    CONTENTS[species]
 }
 
 pub struct Sums {
@@ -39,11 +42,11 @@ fn weighed(entry: Entry) -> Sums
     requires { ⌜ EntryBounds entry ⌝ }
     ensures { λ r. ⌜ Weighed entry (r .nitrogen) (r .base) ⌝ }
 {
-    let species = index8(entry.species);
+    let contents = contents_of(index8(entry.species));
     let yielded = wide8(entry.share) * wide16(entry.yield_kg);
-    let base = content(species, 0) + content(species, 1) + content(species, 2);
+    let base = wide16(contents[0]) + wide16(contents[1]) + wide16(contents[2]);
     Sums {
-        nitrogen: yielded * content(species, 3),
+        nitrogen: yielded * wide16(contents[3]),
         base: yielded * base,
     }
 }

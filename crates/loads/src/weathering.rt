@@ -9,7 +9,7 @@ use crate::widen::index8;
 use crate::widen::wide8;
 
 // Class k by parent material 0 to 4 and texture 1 to 5.
-const CLASSES: [[u64; 5]; 5] = [
+const CLASSES: [[u8; 5]; 5] = [
     [0, 0, 0, 0, 0],
     [1, 3, 3, 6, 6],
     [2, 4, 4, 6, 6],
@@ -22,7 +22,7 @@ fn class_of(parent: usize, clay: u8, sand: u8) -> u64
     ensures { λ r. ⌜ r ≡ classOf parent (textureOf clay sand) ⌝ }
 {
     let place = texture_place(texture_of(clay, sand));
-    CLASSES[parent][place]
+    wide8(CLASSES[parent][place])
 }
 
 pub fn weathering_of(parent: u8, clay: u8, sand: u8, depth: u8) -> u64

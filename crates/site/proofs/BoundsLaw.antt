@@ -11,7 +11,7 @@ use lib.Seq.{getD-take}
 use borrow.Author.Tests.{leb-true}
 use Rattle.site.specs.declared.Site.{Site}
 use Rattle.site.specs.declared.Entry.{Entry}
-use Rattle.site.specs.declared.Rule.the-variants.{BadLength, OutOfRange}
+use Rattle.site.specs.declared.Rule.the-variants.{OutOfRange}
 use Rattle.site.specs.declared.Checked.the-variants.{Passed}
 use Rattle.site.specs.Bounds.{noEntry, EntryBounds, StandBounds, Bounds}
 use Rattle.site.specs.Check.{siteRule}
@@ -19,6 +19,7 @@ use Rattle.site.specs.Values.{due, countRule, itemCount, valueRule, stan
 use Rattle.site.proofs.Tests.{le-or-lt, and-l, and-r}
 use Rattle.site.proofs.Passing.{pass-then, ranged-passed, between-passed}
 use Rattle.site.proofs.PartLaws.{all-at}
+use Rattle.site.proofs.LengthLaws.{count-parts}
 use Rattle.site.proofs.FieldLaws.{site-passed}
 
 entry-bounds : (e : Entry) → entryRanged e ≡ true → EntryBounds e
@@ -48,11 +49,11 @@ each-bounds es n p i h =
     (le-or-lt (length es) i)
 
 pub stand-bounds : (s : Site) → countRule 7 s ≡ Passed → valueRule 7 s ≡ Passed → StandBounds (s .stand) (s .entries)
-unfolding countRule itemCount valueRule standRule
+unfolding itemCount valueRule standRule
 stand-bounds s c v =
     let n = s .entries in
     record {
-      count = leb-true n 4 (and-r (leb 1 n) (leb n 4) (pass-then _ BadLength Passed c .0));
+      count = count-parts 7 s c .1;
       each = each-bounds (s .stand) n (pass-then (allOf entryRanged (take n (s .stand))) OutOfRange _ v .0);
     }
 

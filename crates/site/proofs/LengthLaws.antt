@@ -1,11 +1,19 @@
 -- Laws of rule 7: bounds of its tables, and the lengths that they permit.
 use mathlib.Core.Path.{_≡_, refl}
-use mathlib.Core.Bool.{false}
+use mathlib.Core.Logic.{⊎-elim}
+use mathlib.Core.Bool.{Bool, true, false, _&&_, false≢true}
 use Prim.Native.Nat.{ℕ, _*_, _%_, _≤_, _<_}
+use native.Mathlib.Omega.{arith}
 use lib.Dec.{leb, eqb}
-use lib.ListN.{getD}
-use borrow.Author.Tests.{leb-true, le-leb, lt-leb}
-use Rattle.site.specs.Values.{itemWidths, mostItems, lengthPermitted, allOf}
+use lib.ListN.{getD, List·getD-eq-default}
+use borrow.Author.Tests.{leb-true, le-leb, lt-leb, eqb-true}
+use Rattle.site.specs.declared.Site.{Site}
+use Rattle.site.specs.declared.Rule.the-variants.{BadLength}
+use Rattle.site.specs.declared.Checked.the-variants.{Passed}
+use Rattle.site.specs.Choice.{pick}
+use Rattle.site.specs.Values.{itemWidths, mostItems, lengthPermitted, itemCount, countRule, allOf}
+use Rattle.site.proofs.Tests.{le-or-lt, and-l, and-r}
+use Rattle.site.proofs.Passing.{pass-then}
 use Rattle.site.proofs.PartLaws.{all-getD}
 
 pub width-positive : (t : ℕ) → 1 ≤ getD itemWidths t 1
@@ -36,3 +44,43 @@ module _ (t n : ℕ) (h : t < 16) where
   pub permitted-items : 1 ≤ n → n ≤ getD itemWidths t 1 * getD mostItems t 0 → lengthPermitted t n ≡ eqb (n % getD itemWidths t 1) 0
   unfolding lengthPermitted
   permitted-items k m = rw (lt-leb 16 t h, le-leb 1 n k, le-leb _ _ m)
+
+pick-true : (b x : Bool) → pick b false x ≡ true → x ≡ true
+pick-true true x e = absurd (false≢true e)
+pick-true false x e = e
+
+-- what a permitted length says
+pub permitted-parts : (t n : ℕ) → lengthPermitted t n ≡ true
+    → (1 ≤ n) × (n ≤ getD itemWidths t 1 * getD mostItems t 0) × (n % getD itemWidths t 1 ≡ 0)
+unfolding lengthPermitted
+permitted-parts t n e =
+    let w = getD itemWidths t 1 in
+    let m = getD mostItems t 0 in
+    let some = leb 1 n in
+    let fits = leb n (w * m) in
+    let whole = eqb (n % w) 0 in
+    let all = pick-true (leb 16 t) (some && fits && whole) e in
+    let both = and-l (some && fits) whole all in
+    (leb-true 1 n (and-l some fits both), leb-true n (w * m) (and-r some fits both), eqb-true (n % w) 0 (and-r (some && fits) whole all))
+
+-- what a permitted count of items says
+pub count-parts : (t : ℕ) (s : Site) → countRule t s ≡ Passed → (1 ≤ itemCount t s) × (itemCount t s ≤ getD mostItems t 0)
+unfolding countRule
+count-parts t s e =
+    let n = itemCount t s in
+    let m = getD mostItems t 0 in
+    let both = pass-then (leb 1 n && leb n m) BadLength Passed e .0 in
+    (leb-true 1 n (and-l (leb 1 n) (leb n m) both), leb-true n m (and-r (leb 1 n) (leb n m) both))
+
+-- a tag that is none of 1 to 15 has no items, so no length and no count is permitted
+no-items : (t : ℕ) → (t < 16 → t ≡ 0) → getD mostItems t 0 ≡ 0
+no-items t h = ⊎-elim (λ (past : 16 ≤ t). rw List·getD-eq-default) (λ below. rw (h below)) (le-or-lt 16 t)
+
+pub no-tag-permitted : (t n : ℕ) → (t < 16 → t ≡ 0) → lengthPermitted t n ≡ true → ⊥
+no-tag-permitted t n h e =
+    let p = permitted-parts t n e in
+    let q : n ≤ getD itemWidths t 1 * 0 = rw (no-items t h) at (p .1) in
+    omega (arith, p .0)
+
+pub no-tag-counted : (t : ℕ) (s : Site) → (t < 16 → t ≡ 0) → countRule t s ≡ Passed → ⊥
+no-tag-counted t s h e = let p = count-parts t s e in omega (arith, no-items t h)

@@ -1,5 +1,6 @@
 -- Document 01, "Where each check stands": the refusals by number.
 use Prim.Native.Nat.{ℕ}
+use mathlib.Core.List.{List, [], _∷_}
 use Rattle.site.specs.declared.Rule.{Rule}
 use Rattle.site.specs.declared.Rule.the-variants.{NoBytes, OuterCut, OuterTag, TooMany, InnerCut, InnerTag, BadLength, OutOfRange, NotRising, SharesNotWhole, BufferShort}
 use Rattle.site.specs.declared.Checked.{Checked}
@@ -27,3 +28,8 @@ checkedNumber (Broken r) = ruleNumber r
 unfoldable pub andThen : Checked → Checked → Checked
 andThen Passed c = c
 andThen (Broken r) c = Broken r
+
+-- the values of an answer: those given, or the refusal's number and offset 0
+unfoldable pub valuesIf : Checked → List ℕ → List ℕ
+valuesIf Passed vs = vs
+valuesIf (Broken r) vs = ruleNumber r ∷ 0 ∷ []

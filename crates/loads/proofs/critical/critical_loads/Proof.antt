@@ -1,8 +1,9 @@
-use mathlib.Core.Path.{_≡_, refl, sym, _∙_}
+use mathlib.Core.Path.{_≡_, sym, _∙_}
 use Rattle.site.specs.Check.{siteRule}
 use Rattle.site.specs.declared.Checked.the-variants.{Passed}
 use Rattle.site.proofs.BoundsLaw.{bounds}
 use Rattle.loads.specs.CriticalLoads.{loadsIf, loadsAnswer}
+use Rattle.loads.proofs.AnswerLaws.{whole}
 use borrow.Author.Needs.{needs}
 use Rattle.loads.proofs.critical.critical_loads.Statement.{statement}
 use Rattle.loads.proofs.critical.critical_loads.Tie as tie
@@ -29,12 +30,14 @@ loads-of-requires c κs = bounds (c .before .before .before .args .site) (passed
 returns : tie.Need-returns
 unfolding loadsAnswer loadsIf
 returns c =
-    let broken = sym (c .before .before .before .check-site .ensures .0) ∙ c .before .rule .given .1 in
-    rw broken (refl, refl)
+    let s = c .before .before .before .before .args .site in
+    whole s _ (rw (sym (c .before .before .before .check-site .ensures .0) ∙ c .before .rule .given .1))
 
 returns-2 : tie.Need-returns-2
 unfolding loadsAnswer loadsIf
-returns-2 c = rw (passed (c .before), c .loads-of .ensures) (refl, refl)
+returns-2 c =
+    let s = c .before .before .before .before .args .site in
+    whole s _ (rw (passed (c .before), c .loads-of .ensures))
 
 pub critical-loads-spec : {M : Type 1} → statement M
 critical-loads-spec =

@@ -57,7 +57,7 @@ with-nitrogen-requires c κs =
     let b = at .before .before .before .pre in
     record {
       acid = c .max-s-of .ensures .1;
-      nitrogen = omega (arith, at .stand-sums .ensures .nitrogen-le, c .before .before .before .before .before .wide16 .ensures, b .immobilisation);
+      nitrogen = omega (arith, at .stand-sums .ensures .nitrogen-le, c .before .before .before .before .before .wide16 .ensures .0, b .immobilisation);
       leaching = c .before .before .leaching-of .ensures .1;
       divisor = rw (retained-site (c .before)) (term-bounds (at .before .before .before .args .s) b .retained-least);
     }
@@ -76,10 +76,10 @@ returns c =
       c .before .max-s-of .ensures .0,
       at .stand-sums .ensures .nitrogen,
       at .before .index8 .ensures,
-      c .before .before .before .before .before .before .wide16 .ensures,
+      c .before .before .before .before .before .before .wide16 .ensures .0,
       c .before .before .before .leaching-of .ensures .0,
-      c .before .before .before .before .before .wide162 .ensures,
-      c .before .before .before .before .wide163 .ensures,
+      c .before .before .before .before .before .wide162 .ensures .0,
+      c .before .before .before .before .wide163 .ensures .0,
       retained-site (c .before .before),
     )
 

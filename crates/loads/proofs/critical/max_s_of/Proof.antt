@@ -55,16 +55,16 @@ acid-load-requires c κs =
     let s = at .before .before .before in
     let b = s .pre .0 in
     record {
-      deposition = rw (c .before .before .before .before .wide16 .ensures) (b .deposition);
-      percolation = rw (c .before .before .before .wide162 .ensures) (b .percolation);
+      deposition = rw (c .before .before .before .before .wide16 .ensures .0) (b .deposition);
+      percolation = rw (c .before .before .before .wide162 .ensures .0) (b .percolation);
       weathering = rw (weathered (at .before .before)) (term-bounds (s .args .s) b .weathering-le);
       part = at .available-of .ensures .1;
       limit =
           omega
-          (arith, c .before .before .before .before .wide16 .ensures, b .deposition, available at, term-bounds (s .args .s) b .available-le, c .before .before .wide163 .ensures, b .ratio);
-      divisor = rw (c .before .before .wide163 .ensures) (omega (arith, b .ratio));
-      gibbsite = rw (c .before .wide164 .ensures) (b .gibbsite);
-      level = rw (c .wide165 .ensures) (b .ceiling);
+          (arith, c .before .before .before .before .wide16 .ensures .0, b .deposition, available at, term-bounds (s .args .s) b .available-le, c .before .before .wide163 .ensures .0, b .ratio);
+      divisor = rw (c .before .before .wide163 .ensures .0) (omega (arith, b .ratio));
+      gibbsite = rw (c .before .wide164 .ensures .0) (b .gibbsite);
+      level = rw (c .wide165 .ensures .0) (b .ceiling);
     }
 
 returns : tie.Need-returns
@@ -77,11 +77,11 @@ returns c =
         weathered (at .before .before),
         available at,
         s .pre .1,
-        c .before .before .before .before .before .wide16 .ensures,
-        c .before .before .before .before .wide162 .ensures,
-        c .before .before .before .wide163 .ensures,
-        c .before .before .wide164 .ensures,
-        c .before .wide165 .ensures,
+        c .before .before .before .before .before .wide16 .ensures .0,
+        c .before .before .before .before .wide162 .ensures .0,
+        c .before .before .before .wide163 .ensures .0,
+        c .before .before .wide164 .ensures .0,
+        c .before .wide165 .ensures .0,
       ),
       c .acid-load .ensures .1,
     )

@@ -7,16 +7,20 @@ use Rattle.loads.proofs.nitrogen.denitrified_in.Statement.{statement}
 use Rattle.loads.proofs.nitrogen.denitrified_in.Tie as tie
 use Rattle.loads.proofs.nitrogen.denitrified_in.Reads as reads
 use Rattle.loads.proofs.nitrogen.denitrified_in.Lts as lts
+use Rattle.loads.proofs.widen.wide16.Reads as wide16-reads
 
-mul-result : tie.Need-mul-result
-mul-result c = search needs
+mul-wide16 : tie.Need-mul-wide16
+mul-wide16 c = search needs
 
-array-read-result : tie.Need-array-read-result
-array-read-result c = search needs
+array-read-wide16 : tie.Need-array-read-wide16
+array-read-wide16 c = search needs
+
+wide16-requires : tie.Need-wide16-requires
+wide16-requires c κs = search needs
 
 returns : tie.Need-returns
 unfolding denitrified
-returns c = (refl, denitrified-le (c .args .drainage) (omega arith))
+returns c = rw (c .wide16 .ensures .0) (refl, denitrified-le (c .before .args .drainage) (omega arith))
 
 pub denitrified-in-spec : {M : Type 1} → statement M
-denitrified-in-spec = tie.close (tie.spec mul-result array-read-result returns)
+denitrified-in-spec = tie.close (tie.spec mul-wide16 array-read-wide16 wide16-requires returns)

@@ -13,7 +13,7 @@ use Rattle.loads.proofs.uptake.weighed.Reads as weighed-reads
 
 abbrev Inv-loop : tie.InvT-loop
 Inv-loop entries stand nitrogen₀ base₀ i₀ nitrogen base i =
-    (i ≤ entries) × (nitrogen ≡ standSum nitrogenIn stand i) × (base ≡ standSum baseIn stand i) × (nitrogen ≤ 90000000000 * i) × (base ≤ 90000000000 * i)
+    (i ≤ entries) × (nitrogen ≡ standSum nitrogenIn stand i) × (base ≡ standSum baseIn stand i) × (nitrogen ≤ 131070000000 * i) × (base ≤ 393210000000 * i)
 
 abbrev μ-loop : tie.MeasureT-loop
 μ-loop entries stand nitrogen₀ base₀ i₀ nitrogen base i = entries - i

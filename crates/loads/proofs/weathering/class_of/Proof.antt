@@ -10,6 +10,7 @@ use Rattle.loads.proofs.weathering.class_of.Reads as reads
 use Rattle.loads.proofs.weathering.class_of.Lts as lts
 use Rattle.loads.proofs.texture.texture_of.Reads as texture-of-reads
 use Rattle.loads.proofs.texture.texture_place.Reads as texture-place-reads
+use Rattle.loads.proofs.widen.wide8.Reads as wide8-reads
 
 texture-of-requires : tie.Need-texture-of-requires
 texture-of-requires c κs = search needs
@@ -17,24 +18,26 @@ texture-of-requires c κs = search needs
 texture-place-requires : tie.Need-texture-place-requires
 texture-place-requires c κs = search needs
 
-mul-result : tie.Need-mul-result
-mul-result c = search needs
+mul-wide8 : tie.Need-mul-wide8
+mul-wide8 c = search needs
 
-mul-result-2 : tie.Need-mul-result-2
-mul-result-2 c = search needs
+index-1-wide8 : tie.Need-index-1-wide8
+index-1-wide8 c = search needs
 
-index-1-result : tie.Need-index-1-result
-index-1-result c = search needs
+index-2-wide8 : tie.Need-index-2-wide8
+index-2-wide8 c = search needs
 
-index-2-result : tie.Need-index-2-result
-index-2-result c = search needs
+wide8-requires : tie.Need-wide8-requires
+wide8-requires c κs = search needs
 
 returns : tie.Need-returns
 unfolding classOf
 returns c =
-    let q : textureOf (c .before .before .before .args .clay) (c .before .before .before .args .sand) - 1 ≡ c .before .texture-place .result =
-    omega (arith, c .before .texture-place .ensures .0, c .before .before .texture-of .ensures) in
-    rw q
+    let at = c .before .before in
+    let a = at .before .before .args in
+    let q : textureOf (a .clay) (a .sand) - 1 ≡ at .texture-place .result =
+    omega (arith, at .texture-place .ensures .0, at .before .texture-of .ensures) in
+    rw (c .wide8 .ensures, q)
 
 pub class-of-spec : {M : Type 1} → statement M
 class-of-spec =
@@ -42,8 +45,8 @@ class-of-spec =
     (tie.spec
     texture-of-requires
     texture-place-requires
-    mul-result
-    mul-result-2
-    index-1-result
-    index-2-result
+    mul-wide8
+    index-1-wide8
+    index-2-wide8
+    wide8-requires
     returns)

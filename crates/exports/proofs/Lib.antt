@@ -1,0 +1,2 @@
+pub mod ResultLaws
+pub mod ValueLaws

@@ -1,0 +1,20 @@
+use denote.Ref.{now}
+use mathlib.Core.Path.{sym}
+use lib.ListN.{List·getD-eq-default}
+use borrow.Author.Needs.{needs}
+use Rattle.exports.proofs.layout.byte.Statement.{statement}
+use Rattle.exports.proofs.layout.byte.Tie as tie
+use Rattle.exports.proofs.layout.byte.Reads as reads
+use Rattle.exports.proofs.layout.byte.Lts as lts
+
+shared-slice-read-result : tie.Need-shared-slice-read-result
+shared-slice-read-result c = search needs
+
+returns : tie.Need-returns
+returns c = search needs
+
+returns-2 : tie.Need-returns-2
+returns-2 c = sym (List·getD-eq-default (now (c .before .args .b)) 0 (c .if1 .left))
+
+pub byte-spec : {M : Type 1} → statement M
+byte-spec = tie.close (tie.spec shared-slice-read-result returns returns-2)

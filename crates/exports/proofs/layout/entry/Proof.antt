@@ -1,0 +1,31 @@
+use Rattle.exports.specs.Layout.{entryIn}
+use borrow.Author.Needs.{needs}
+use Rattle.exports.proofs.layout.entry.Statement.{statement}
+use Rattle.exports.proofs.layout.entry.Tie as tie
+use Rattle.exports.proofs.layout.entry.Reads as reads
+use Rattle.exports.proofs.layout.entry.Lts as lts
+use Rattle.exports.proofs.layout.byte.Reads as byte-reads
+use Rattle.exports.proofs.layout.word.Reads as word-reads
+
+byte-requires : tie.Need-byte-requires
+byte-requires c κs = search needs
+
+add-byte : tie.Need-add-byte
+add-byte c = search needs
+
+byte-requires-2 : tie.Need-byte-requires-2
+byte-requires-2 c κs = search needs
+
+add-word : tie.Need-add-word
+add-word c = search needs
+
+word-requires : tie.Need-word-requires
+word-requires c κs = search needs
+
+returns : tie.Need-returns
+unfolding entryIn
+returns c = cc
+
+pub entry-spec : {M : Type 1} → statement M
+entry-spec =
+    tie.close (tie.spec byte-requires add-byte byte-requires-2 add-word word-requires returns)

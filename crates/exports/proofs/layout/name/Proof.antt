@@ -1,0 +1,49 @@
+use Rattle.exports.specs.Layout.{siteIn}
+use borrow.Author.Needs.{needs}
+use Rattle.exports.proofs.layout.name.Statement.{statement}
+use Rattle.exports.proofs.layout.name.Tie as tie
+use Rattle.exports.proofs.layout.name.Reads as reads
+use Rattle.exports.proofs.layout.name.Lts as lts
+use Rattle.exports.proofs.layout.byte.Reads as byte-reads
+
+byte-requires : tie.Need-byte-requires
+byte-requires c κs = search needs
+
+byte-requires-2 : tie.Need-byte-requires-2
+byte-requires-2 c κs = search needs
+
+byte-requires-3 : tie.Need-byte-requires-3
+byte-requires-3 c κs = search needs
+
+byte-requires-4 : tie.Need-byte-requires-4
+byte-requires-4 c κs = search needs
+
+byte-requires-5 : tie.Need-byte-requires-5
+byte-requires-5 c κs = search needs
+
+byte-requires-6 : tie.Need-byte-requires-6
+byte-requires-6 c κs = search needs
+
+byte-requires-7 : tie.Need-byte-requires-7
+byte-requires-7 c κs = search needs
+
+byte-requires-8 : tie.Need-byte-requires-8
+byte-requires-8 c κs = search needs
+
+returns : tie.Need-returns
+unfolding siteIn
+returns c = cc
+
+pub name-spec : {M : Type 1} → statement M
+name-spec =
+    tie.close
+    (tie.spec
+    byte-requires
+    byte-requires-2
+    byte-requires-3
+    byte-requires-4
+    byte-requires-5
+    byte-requires-6
+    byte-requires-7
+    byte-requires-8
+    returns)

@@ -1,0 +1,67 @@
+use mathlib.Core.Path.{_≡_, sym, _∙_}
+use denote.Ref.{now}
+use Rattle.site.specs.Check.{siteRule}
+use Rattle.exports.specs.Results.{codeIf}
+use Rattle.exports.specs.Layout.{valueCheck}
+use Rattle.exports.proofs.ValueLaws.{wrong-length, as-site}
+use borrow.Author.Needs.{needs}
+use Rattle.exports.proofs.value_calls.forest_check.Statement.{statement}
+use Rattle.exports.proofs.value_calls.forest_check.Tie as tie
+use Rattle.exports.proofs.value_calls.forest_check.Reads as reads
+use Rattle.exports.proofs.value_calls.forest_check.Lts as lts
+use Rattle.exports.proofs.layout.site_in.Reads as site-in-reads
+use Rattle.exports.proofs.value_calls.refused.Reads as refused-reads
+use Rattle.site.proofs.check_site.Reads as check-site-reads
+
+site-rule : (c : tie.After-check-site) → valueCheck (now (c .before .before .before .before .args .site)) ≡ siteRule (c .before .site-in .result)
+site-rule c =
+    let b = now (c .before .before .before .before .args .site) in
+    as-site b (c .before .before .if1 .left) ∙ rw (c .before .site-in .ensures)
+
+refused-requires : tie.Need-refused-requires
+refused-requires c κs = search needs
+
+returns : tie.Need-returns
+unfolding codeIf
+returns c = rw (wrong-length (now (c .before .before .before .args .site)) (c .before .if1 .taken)) (c .refused .ensures)
+
+site-in-requires : tie.Need-site-in-requires
+site-in-requires c κs = search needs
+
+check-site-requires : tie.Need-check-site-requires
+check-site-requires c κs = search needs
+
+enum-known-rule : tie.Need-enum-known-rule
+enum-known-rule c = search needs
+
+refused-requires-2 : tie.Need-refused-requires-2
+refused-requires-2 c κs = search needs
+
+enum-told : tie.Need-enum-told
+enum-told c = search needs
+
+returns-2 : tie.Need-returns-2
+unfolding codeIf
+returns-2 c =
+    let at = c .before .before .before .before in
+    rw (site-rule at, sym (at .check-site .ensures .0) ∙ c .before .before .rule .given .1) (c .refused2 .ensures)
+
+returns-3 : tie.Need-returns-3
+unfolding codeIf
+returns-3 c =
+    let at = c .before .before in
+    rw (site-rule at, sym (at .check-site .ensures .0) ∙ c .enum-told .given .1)
+
+pub forest-check-spec : {M : Type 1} → statement M
+forest-check-spec =
+    tie.close
+    (tie.spec
+    refused-requires
+    returns
+    site-in-requires
+    check-site-requires
+    enum-known-rule
+    refused-requires-2
+    enum-told
+    returns-2
+    returns-3)

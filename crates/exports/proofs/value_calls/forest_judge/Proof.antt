@@ -1,0 +1,128 @@
+use mathlib.Core.Path.{_≡_, sym, _∙_}
+use native.Mathlib.Omega.{arith}
+use denote.Ref.{now}
+use Rattle.site.specs.Check.{siteRule}
+use Rattle.site.specs.declared.Rule.the-variants.{BadLength}
+use Rattle.site.specs.declared.Checked.the-variants.{Passed}
+use Rattle.loads.specs.CriticalLoads.{loadsOf}
+use Rattle.judgement.specs.Verdicts.{judgedOf}
+use Rattle.judgement.proofs.AnswerLaws.{judged, refused as Judgement·refused}
+use Rattle.exports.specs.Layout.{siteIn, valueCheck, loadsNumbers, judgementNumbers}
+use Rattle.exports.proofs.ValueLaws.{wrong-length, as-site, refused, short, written, stored-eight}
+use borrow.Author.Needs.{needs}
+use Rattle.exports.proofs.value_calls.forest_judge.Statement.{statement}
+use Rattle.exports.proofs.value_calls.forest_judge.Tie as tie
+use Rattle.exports.proofs.value_calls.forest_judge.Reads as reads
+use Rattle.exports.proofs.value_calls.forest_judge.Lts as lts
+use Rattle.exports.proofs.layout.site_in.Reads as site-in-reads
+use Rattle.exports.proofs.value_calls.put_four.Reads as put-four-reads
+use Rattle.exports.proofs.value_calls.refused.Reads as refused-reads
+use Rattle.exports.proofs.value_calls.verdict_marked.Reads as verdict-marked-reads
+use Rattle.judgement.proofs.judge.Reads as judge-reads
+
+-- the check of the value, where its length is right
+site-rule : (c : tie.After-judge) → valueCheck (now (c .before .before .before .before .before .args .site)) ≡ siteRule (c .before .site-in .result)
+site-rule c =
+    let b = now (c .before .before .before .before .before .args .site) in
+    as-site b (c .before .before .if1 .left) ∙ rw (c .before .site-in .ensures)
+
+refused-requires : tie.Need-refused-requires
+refused-requires c κs = search needs
+
+returns : tie.Need-returns
+returns c =
+    let s = c .before .before .before .before in
+    let b = now (s .args .site) in
+    rw (c .refused .ensures) (refused b BadLength 8 (judgementNumbers (siteIn b)) (now (s .args .out)) (wrong-length b (c .before .if1 .taken)))
+
+-- the value passed, and this is its judgement
+judged-site :
+    (c : tie.After-known-told2) → let b = now (c .before .before .before .before .before .before .before .before .args .site) in
+    (valueCheck b ≡ Passed) × (c .before .judged .given .0 .0 ≡ judgedOf (siteIn b))
+judged-site c =
+    let at = c .before .before .before in
+    let g = judged (at .before .site-in .result) _ (sym (at .judge .ensures .0) ∙ c .before .judged .given .1) in
+    (site-rule at ∙ g .0, g .1 ∙ rw (at .before .site-in .ensures))
+
+site-in-requires : tie.Need-site-in-requires
+site-in-requires c κs = search needs
+
+judge-requires : tie.Need-judge-requires
+judge-requires c κs = search needs
+
+enum-known-rule : tie.Need-enum-known-rule
+enum-known-rule c = search needs
+
+refused-requires-2 : tie.Need-refused-requires-2
+refused-requires-2 c κs = search needs
+
+enum-known-judged : tie.Need-enum-known-judged
+enum-known-judged c = search needs
+
+refused-requires-3 : tie.Need-refused-requires-3
+refused-requires-3 c κs = search needs
+
+returns-2 : tie.Need-returns-2
+returns-2 c =
+    let at = c .before .before .before .before .before in
+    let s = at .before .before .before .before .before in
+    let b = now (s .args .site) in
+    rw (c .refused3 .ensures)
+    (short b 8 (judgementNumbers (siteIn b)) (now (s .args .out)) (judged-site (c .before .before) .0) (c .before .if2 .taken))
+
+verdict-marked-requires : tie.Need-verdict-marked-requires
+verdict-marked-requires c κs = search needs
+
+put-four-requires : tie.Need-put-four-requires
+put-four-requires c κs = search needs
+
+put-four-requires-2 : tie.Need-put-four-requires-2
+put-four-requires-2 c κs = search needs
+
+returns-3 : tie.Need-returns-3
+returns-3 c =
+    let at = c .before .before .before .before in
+    let s = at .before .before .before .before .before in
+    let b = now (s .args .site) in
+    rw (c .refused2 .ensures)
+    (refused b _ 8 (judgementNumbers (siteIn b)) (now (s .args .out))
+    (site-rule at ∙ Judgement·refused (at .before .site-in .result) _ (sym (at .judge .ensures .0) ∙ c .before .before .rule .given .1)))
+
+same-length : tie.Need-same-length
+same-length c = search needs
+
+returns-4 : tie.Need-returns-4
+unfolding judgementNumbers loadsNumbers judgedOf loadsOf
+returns-4 c =
+    let second = c .before .before in
+    let first = second .before .before .before .before in
+    let marked = first .before .before in
+    let told = marked .before .before .before in
+    let s = told .before .before .before .before .before .before .before .before in
+    let b = now (s .args .site) in
+    let old = now (s .args .out) in
+    let j = judged-site told in
+    let v = told .before .judged .given .0 .0 .verdict in
+    written b 8 (judgementNumbers (siteIn b)) old _ (j .0) (omega arith)
+    (stored-eight _ _ _ _ v (marked .verdict-marked .result) old _ _ (marked .verdict-marked .ensures) (omega arith) (first .put-four .ensures) (second .put-four2 .ensures)
+    ∙ rw (j .1))
+
+pub forest-judge-spec : {M : Type 1} → statement M
+forest-judge-spec =
+    tie.close
+    (tie.spec
+    refused-requires
+    returns
+    site-in-requires
+    judge-requires
+    enum-known-rule
+    refused-requires-2
+    enum-known-judged
+    refused-requires-3
+    returns-2
+    verdict-marked-requires
+    put-four-requires
+    put-four-requires-2
+    returns-3
+    same-length
+    returns-4)

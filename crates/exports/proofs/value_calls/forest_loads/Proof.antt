@@ -1,0 +1,115 @@
+use mathlib.Core.Path.{_≡_, sym, _∙_}
+use native.Mathlib.Omega.{arith}
+use denote.Ref.{now}
+use Rattle.site.specs.Check.{siteRule}
+use Rattle.site.specs.declared.Rule.the-variants.{BadLength}
+use Rattle.site.specs.declared.Checked.the-variants.{Passed}
+use Rattle.loads.specs.CriticalLoads.{loadsOf}
+use Rattle.loads.proofs.AnswerLaws.{given, refused as Loads·refused}
+use Rattle.exports.specs.Layout.{siteIn, valueCheck, loadsNumbers}
+use Rattle.exports.proofs.ResultLaws.{four}
+use Rattle.exports.proofs.ValueLaws.{wrong-length, as-site, refused, short, written}
+use borrow.Author.Needs.{needs}
+use Rattle.exports.proofs.value_calls.forest_loads.Statement.{statement}
+use Rattle.exports.proofs.value_calls.forest_loads.Tie as tie
+use Rattle.exports.proofs.value_calls.forest_loads.Reads as reads
+use Rattle.exports.proofs.value_calls.forest_loads.Lts as lts
+use Rattle.exports.proofs.layout.site_in.Reads as site-in-reads
+use Rattle.exports.proofs.value_calls.put_four.Reads as put-four-reads
+use Rattle.exports.proofs.value_calls.refused.Reads as refused-reads
+use Rattle.loads.proofs.critical_loads.Reads as critical-loads-reads
+
+-- the check of the value, where its length is right
+site-rule : (c : tie.After-critical-loads) → valueCheck (now (c .before .before .before .before .before .args .site)) ≡ siteRule (c .before .site-in .result)
+site-rule c =
+    let b = now (c .before .before .before .before .before .args .site) in
+    as-site b (c .before .before .if1 .left) ∙ rw (c .before .site-in .ensures)
+
+refused-requires : tie.Need-refused-requires
+refused-requires c κs = search needs
+
+returns : tie.Need-returns
+returns c =
+    let s = c .before .before .before .before in
+    let b = now (s .args .site) in
+    rw (c .refused .ensures) (refused b BadLength 4 (loadsNumbers (siteIn b)) (now (s .args .out)) (wrong-length b (c .before .if1 .taken)))
+
+-- the value passed, and these are its loads
+loaded :
+    (c : tie.After-known-told2) → let b = now (c .before .before .before .before .before .before .before .before .args .site) in
+    (valueCheck b ≡ Passed) × (c .before .l .given .0 .0 ≡ loadsOf (siteIn b))
+loaded c =
+    let at = c .before .before .before in
+    let g = given (at .before .site-in .result) _ (sym (at .critical-loads .ensures .0) ∙ c .before .l .given .1) in
+    (site-rule at ∙ g .0, g .1 ∙ rw (at .before .site-in .ensures))
+
+site-in-requires : tie.Need-site-in-requires
+site-in-requires c κs = search needs
+
+critical-loads-requires : tie.Need-critical-loads-requires
+critical-loads-requires c κs = search needs
+
+enum-known-rule : tie.Need-enum-known-rule
+enum-known-rule c = search needs
+
+refused-requires-2 : tie.Need-refused-requires-2
+refused-requires-2 c κs = search needs
+
+enum-known-l : tie.Need-enum-known-l
+enum-known-l c = search needs
+
+refused-requires-3 : tie.Need-refused-requires-3
+refused-requires-3 c κs = search needs
+
+returns-2 : tie.Need-returns-2
+returns-2 c =
+    let at = c .before .before .before .before .before in
+    let s = at .before .before .before .before .before in
+    let b = now (s .args .site) in
+    rw (c .refused3 .ensures)
+    (short b 4 (loadsNumbers (siteIn b)) (now (s .args .out)) (loaded (c .before .before) .0) (c .before .if2 .taken))
+
+put-four-requires : tie.Need-put-four-requires
+put-four-requires c κs = search needs
+
+returns-3 : tie.Need-returns-3
+returns-3 c =
+    let at = c .before .before .before .before in
+    let s = at .before .before .before .before .before in
+    let b = now (s .args .site) in
+    rw (c .refused2 .ensures)
+    (refused b _ 4 (loadsNumbers (siteIn b)) (now (s .args .out))
+    (site-rule at ∙ Loads·refused (at .before .site-in .result) _ (sym (at .critical-loads .ensures .0) ∙ c .before .before .rule .given .1)))
+
+same-length : tie.Need-same-length
+same-length c = search needs
+
+returns-4 : tie.Need-returns-4
+unfolding loadsNumbers loadsOf
+returns-4 c =
+    let put = c .before .before in
+    let told = put .before .before .before in
+    let s = told .before .before .before .before .before .before .before .before in
+    let b = now (s .args .site) in
+    let old = now (s .args .out) in
+    let l = loaded told in
+    written b 4 (loadsNumbers (siteIn b)) old _ (l .0) (omega arith)
+    (put .put-four .ensures ∙ four _ _ _ _ old (omega arith) ∙ rw (l .1))
+
+pub forest-loads-spec : {M : Type 1} → statement M
+forest-loads-spec =
+    tie.close
+    (tie.spec
+    refused-requires
+    returns
+    site-in-requires
+    critical-loads-requires
+    enum-known-rule
+    refused-requires-2
+    enum-known-l
+    refused-requires-3
+    returns-2
+    put-four-requires
+    returns-3
+    same-length
+    returns-4)

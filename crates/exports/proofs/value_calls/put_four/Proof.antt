@@ -1,0 +1,80 @@
+use native.Mathlib.Omega.{arith}
+use lib.ListN.{length-set}
+use borrow.Author.Needs.{needs}
+use Rattle.exports.proofs.value_calls.put_four.Statement.{statement}
+use Rattle.exports.proofs.value_calls.put_four.Tie as tie
+use Rattle.exports.proofs.value_calls.put_four.Reads as reads
+use Rattle.exports.proofs.value_calls.put_four.Lts as lts
+
+array-read-out : tie.Need-array-read-out
+array-read-out c = search needs
+
+mul-out : tie.Need-mul-out
+mul-out c = search needs
+
+slice-write-out : tie.Need-slice-write-out
+slice-write-out c = search needs
+
+array-read-out-2 : tie.Need-array-read-out-2
+array-read-out-2 c = search needs
+
+add-out : tie.Need-add-out
+add-out c = search needs
+
+mul-out-2 : tie.Need-mul-out-2
+mul-out-2 c = search needs
+
+slice-write-out-2 : tie.Need-slice-write-out-2
+slice-write-out-2 c = simp length-set (omega arith)
+
+array-read-out-3 : tie.Need-array-read-out-3
+array-read-out-3 c = search needs
+
+add-out-2 : tie.Need-add-out-2
+add-out-2 c = search needs
+
+mul-out-3 : tie.Need-mul-out-3
+mul-out-3 c = search needs
+
+slice-write-out-3 : tie.Need-slice-write-out-3
+slice-write-out-3 c = simp length-set (omega arith)
+
+array-read-out-4 : tie.Need-array-read-out-4
+array-read-out-4 c = search needs
+
+add-out-3 : tie.Need-add-out-3
+add-out-3 c = search needs
+
+mul-out-4 : tie.Need-mul-out-4
+mul-out-4 c = search needs
+
+slice-write-out-4 : tie.Need-slice-write-out-4
+slice-write-out-4 c = simp length-set (omega arith)
+
+same-length : tie.Need-same-length
+same-length c = search needs
+
+returns : tie.Need-returns
+returns c = search needs
+
+pub put-four-spec : {M : Type 1} → statement M
+put-four-spec =
+    tie.close
+    (tie.spec
+    array-read-out
+    mul-out
+    slice-write-out
+    array-read-out-2
+    add-out
+    mul-out-2
+    slice-write-out-2
+    array-read-out-3
+    add-out-2
+    mul-out-3
+    slice-write-out-3
+    array-read-out-4
+    add-out-3
+    mul-out-4
+    slice-write-out-4
+    same-length
+    returns)

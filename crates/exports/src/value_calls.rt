@@ -1,0 +1,107 @@
+// Check, loads and judgement of a site value.
+ghost use mathlib.Core.Path.{_≡_};
+ghost use Prim.Native.Nat.{_+_, _≤_};
+ghost use lib.ListN.{length, getD, set};
+ghost use Rattle.site.specs.Refusal.{andThen};
+ghost use Rattle.exports.specs.Results.{refusalCode, roomRule, codeIf, heldIf};
+ghost use Rattle.exports.specs.Layout.{siteIn, valueCheck, loadsNumbers, judgementNumbers, verdictMarked};
+use crate::layout::site_in;
+use judgement::JudgementAnswer;
+use judgement::Verdict;
+use judgement::judge;
+use judgement::region_number;
+use loads::LoadsAnswer;
+use loads::critical_loads;
+use site::Checked;
+use site::Rule;
+use site::check_site;
+use site::rule_number;
+
+// A refusal at offset 0.
+fn refused(rule: Rule) -> u64
+    ensures { λ r. ⌜ r ≡ refusalCode rule 0 ⌝ }
+{
+    rule_number(rule) * 4_294_967_296
+}
+
+#[no_mangle]
+pub extern "C" fn forest_check(site: &[u8]) -> u64
+    ensures { λ r. ⌜ r ≡ codeIf (valueCheck (now (site .entry))) 0 ⌝ }
+{
+    if site.len() != 50 {
+        return refused(Rule::BadLength);
+    }
+    match check_site(site_in(site)) {
+        Checked::Broken(rule) => refused(rule),
+        Checked::Passed => 0,
+    }
+}
+
+// Four numbers from place `at` on.
+fn put_four(out: &mut [u64], at: usize, ns: [u64; 4])
+    requires { ⌜ at + 4 ≤ length (now out) ⌝ }
+    ensures { λ _. ⌜ now (out .exit) ≡ set (set (set (set (now (out .entry)) at (getD ns 0 0)) (at + 1) (getD ns 1 0)) (at + 2) (getD ns 2 0)) (at + 3) (getD ns 3 0) ⌝ }
+{
+    out[at] = ns[0];
+    out[at + 1] = ns[1];
+    out[at + 2] = ns[2];
+    out[at + 3] = ns[3];
+}
+
+#[no_mangle]
+pub extern "C" fn forest_loads(site: &[u8], out: &mut [u64]) -> u64
+    ensures answer { λ r. ⌜ r ≡ codeIf (andThen (valueCheck (now (site .entry))) (roomRule 4 (length (now (out .entry))))) 4 ⌝ }
+    ensures buffer { λ _. ⌜ now (out .exit) ≡ heldIf (andThen (valueCheck (now (site .entry))) (roomRule 4 (length (now (out .entry))))) (loadsNumbers (siteIn (now (site .entry)))) (now (out .entry)) ⌝ }
+{
+    if site.len() != 50 {
+        return refused(Rule::BadLength);
+    }
+    match critical_loads(site_in(site)) {
+        LoadsAnswer::Refused(rule) => refused(rule),
+        LoadsAnswer::Given(l) => {
+            if out.len() < 4 {
+                return refused(Rule::BufferShort);
+            }
+            put_four(out, 0, [l.max_s, l.min_n, l.max_n, l.nut_n]);
+            4
+        }
+    }
+}
+
+// Region, both exceedances, mark.
+fn verdict_marked(v: Verdict) -> [u64; 4]
+    ensures { λ r. ⌜ r ≡ verdictMarked v ⌝ }
+{
+    match v {
+        Verdict::Within => [0, 0, 0, 0],
+        Verdict::Over {
+            region,
+            acid,
+            nutrient,
+        } => [region_number(region), acid, nutrient, 1],
+    }
+}
+
+#[no_mangle]
+pub extern "C" fn forest_judge(site: &[u8], out: &mut [u64]) -> u64
+    ensures answer { λ r. ⌜ r ≡ codeIf (andThen (valueCheck (now (site .entry))) (roomRule 8 (length (now (out .entry))))) 8 ⌝ }
+    ensures buffer { λ _. ⌜ now (out .exit) ≡ heldIf (andThen (valueCheck (now (site .entry))) (roomRule 8 (length (now (out .entry))))) (judgementNumbers (siteIn (now (site .entry)))) (now (out .entry)) ⌝ }
+{
+    if site.len() != 50 {
+        return refused(Rule::BadLength);
+    }
+    match judge(site_in(site)) {
+        JudgementAnswer::Refused(rule) => refused(rule),
+        JudgementAnswer::Given(judged) => {
+            if out.len() < 8 {
+                return refused(Rule::BufferShort);
+            }
+            let l = judged.loads;
+            let v = judged.verdict;
+            let marked = verdict_marked(v);
+            put_four(out, 0, [l.max_s, l.min_n, l.max_n, l.nut_n]);
+            put_four(out, 4, marked);
+            8
+        }
+    }
+}

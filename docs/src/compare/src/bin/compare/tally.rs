@@ -1,0 +1,180 @@
+//! How often each kind of answer and site occurred.
+
+use forest::{Site, Terms};
+use std::ops::RangeInclusive;
+
+#[derive(Clone, Copy)]
+pub enum Source {
+    List,
+    Report,
+    Rewrite,
+    Check,
+    Loads,
+    Judge,
+    Program,
+}
+
+/// The sources, and the rules that each can refuse by.
+const SOURCES: [(&str, RangeInclusive<usize>); 7] = [
+    ("list", 1..=11),
+    ("report", 1..=11),
+    ("rewrite", 1..=11),
+    ("check", 7..=10),
+    ("loads", 7..=11),
+    ("judge", 7..=11),
+    ("program", 1..=10),
+];
+
+const PARENT_MATERIALS: [&str; 5] = ["organic", "acidic", "intermediate", "basic", "calcareous"];
+const SPECIES: [&str; 9] = [
+    "pine",
+    "spruce",
+    "beech, hornbeam",
+    "oak",
+    "alder",
+    "birch",
+    "mountain pine",
+    "willow",
+    "other deciduous",
+];
+
+const JUDGE: usize = 0;
+const LINES: usize = 1;
+
+#[derive(Default)]
+pub struct Tally {
+    /// By source, then by rule; 0 stands for success.
+    answers: [[u64; 12]; 7],
+    /// By judge and by lines of listings, as the next three.
+    regions: [[u64; 5]; 2],
+    within: [u64; 2],
+    over: [u64; 2],
+    over_by_nutrient_alone: [u64; 2],
+    parent_materials: [u64; 5],
+    drainages: [u64; 6],
+    species: [u64; 9],
+    hydrogen_bound: u64,
+    aluminium_bound: u64,
+}
+
+impl Tally {
+    pub fn answer(&mut self, source: Source, result: u64) {
+        self.answers[source as usize][(result >> 32) as usize] += 1;
+    }
+
+    /// What is to be printed for a file: a listing or the line of a refusal.
+    pub fn printed(&mut self, source: Source, text: &[u8]) {
+        let text = std::str::from_utf8(text).expect("ASCII");
+        let answers = &mut self.answers[source as usize];
+        if let Some(refused) = text.strip_prefix("refused ") {
+            let (rule, _) = refused.split_once(' ').expect("a rule and its offset");
+            answers[rule.parse::<usize>().expect("a number")] += 1;
+            return;
+        }
+        answers[0] += 1;
+        for line in text.lines().skip(1) {
+            let words: Vec<&str> = line.split(' ').collect();
+            let region = words[5].parse().expect("a region");
+            self.verdict(LINES, region, words[8] == "over");
+        }
+    }
+
+    fn verdict(&mut self, by: usize, region: usize, over: bool) {
+        self.regions[by][region] += 1;
+        if over {
+            self.over[by] += 1;
+            self.over_by_nutrient_alone[by] += u64::from(region == 0);
+        } else {
+            self.within[by] += 1;
+        }
+    }
+
+    /// A site that was judged, with the numbers of `forest_judge`.
+    pub fn judged(&mut self, site: &Site, numbers: &[u64]) {
+        self.verdict(JUDGE, numbers[4] as usize, numbers[7] == 1);
+        self.parent_materials[usize::from(site.parent_material)] += 1;
+        self.drainages[usize::from(site.drainage)] += 1;
+        for entry in &site.stand[..usize::from(site.entries)] {
+            self.species[usize::from(entry.species)] += 1;
+        }
+        if Terms::of(site).level == i64::from(site.hydrogen_ceiling) {
+            self.hydrogen_bound += 1;
+        } else {
+            self.aluminium_bound += 1;
+        }
+    }
+
+    /// Prints the counts and returns how many kinds are due and never occurred.
+    pub fn print(&self, with_program: bool) -> u64 {
+        let mut absent = 0;
+        let sources = &SOURCES[..if with_program { 7 } else { 6 }];
+
+        print!("{:<24}", "");
+        sources.iter().for_each(|(name, _)| print!("{name:>10}"));
+        println!();
+        for rule in 0..=11 {
+            match rule {
+                0 => print!("{:<24}", "success"),
+                _ => print!("{:<24}", format!("refusal {rule}")),
+            }
+            for ((_, rules), answers) in sources.iter().zip(&self.answers) {
+                absent += cell(answers[rule], rule == 0 || rules.contains(&rule));
+            }
+            println!();
+        }
+
+        println!("\n{:<24}{:>10}{:>10}", "", "judge", "lines");
+        for region in 0..5 {
+            print!("{:<24}", format!("region {region}"));
+            absent += row(&self.regions.map(|counts| counts[region]));
+        }
+        for (name, counts) in [
+            ("within", self.within),
+            ("over", self.over),
+            ("over by nutrient alone", self.over_by_nutrient_alone),
+        ] {
+            print!("{name:<24}");
+            absent += row(&counts);
+        }
+
+        println!("\n{:<24}{:>10}", "", "judge");
+        let mut kinds: Vec<(String, u64)> = Vec::new();
+        let named = |name: &str| name.to_string();
+        kinds.extend(
+            PARENT_MATERIALS
+                .map(named)
+                .into_iter()
+                .zip(self.parent_materials),
+        );
+        kinds.extend(
+            (0..)
+                .map(|drainage| format!("drainage {drainage}"))
+                .zip(self.drainages),
+        );
+        kinds.extend(SPECIES.map(named).into_iter().zip(self.species));
+        kinds.push((named("hydrogen-bound"), self.hydrogen_bound));
+        kinds.push((named("aluminium-bound"), self.aluminium_bound));
+        for (name, count) in kinds {
+            print!("{name:<24}");
+            absent += row(&[count]);
+        }
+        absent
+    }
+}
+
+/// Ends a line with counts that are all due; returns how many are 0.
+fn row(counts: &[u64]) -> u64 {
+    let absent = counts.iter().map(|&count| cell(count, true)).sum();
+    println!();
+    absent
+}
+
+/// Prints a count; returns 1 where it is due and 0.
+fn cell(count: u64, due: bool) -> u64 {
+    match (count, due) {
+        (0, false) => print!("{:>10}", "-"),
+        (0, true) => print!("{:>10}", "NONE"),
+        _ => print!("{count:>10}"),
+    }
+    u64::from(count == 0 && due)
+}

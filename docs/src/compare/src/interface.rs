@@ -1,0 +1,126 @@
+//! The six calls of `docs/forest.h`, by the static library and by the independent implementation.
+
+use forest::{Refusal, Site, Verdict};
+
+/// A call: input, lent buffer of elements `T`, result.
+pub struct Call<T> {
+    pub name: &'static str,
+    pub library: fn(&[u8], &mut [T]) -> u64,
+    pub reference: fn(&[u8], &mut [T]) -> u64,
+}
+
+pub const LIST: Call<u8> = Call {
+    name: "forest_list",
+    library: |file, out| unsafe {
+        c::forest_list(file.as_ptr(), file.len(), out.as_mut_ptr(), out.len())
+    },
+    reference: |file, out| result(forest::list(file, out)),
+};
+
+pub const REPORT: Call<u8> = Call {
+    name: "forest_report",
+    library: |file, out| unsafe {
+        c::forest_report(file.as_ptr(), file.len(), out.as_mut_ptr(), out.len())
+    },
+    reference: |file, out| result(forest::report(file, out)),
+};
+
+pub const REWRITE: Call<u8> = Call {
+    name: "forest_rewrite",
+    library: |record, out| unsafe {
+        c::forest_rewrite(record.as_ptr(), record.len(), out.as_mut_ptr(), out.len())
+    },
+    reference: |record, out| result(forest::rewrite(record, out)),
+};
+
+/// The check takes no buffer.
+pub const CHECK: Call<u64> = Call {
+    name: "forest_check",
+    library: |site, _| unsafe { c::forest_check(site.as_ptr(), site.len()) },
+    reference: |site, _| {
+        let checked = Site::from_bytes(site).and_then(|site| forest::check(&site));
+        result(checked.map(|()| 0))
+    },
+};
+
+pub const LOADS: Call<u64> = Call {
+    name: "forest_loads",
+    library: |site, out| unsafe {
+        c::forest_loads(site.as_ptr(), site.len(), out.as_mut_ptr(), out.len())
+    },
+    reference: |site, out| match Site::from_bytes(site).and_then(|site| forest::loads(&site)) {
+        Ok(loads) => enter(&[loads.max_s, loads.min_n, loads.max_n, loads.nut_n], out),
+        Err(refusal) => refused(refusal),
+    },
+};
+
+pub const JUDGE: Call<u64> = Call {
+    name: "forest_judge",
+    library: |site, out| unsafe {
+        c::forest_judge(site.as_ptr(), site.len(), out.as_mut_ptr(), out.len())
+    },
+    reference: |site, out| match Site::from_bytes(site).and_then(|site| forest::judge(&site)) {
+        Ok(judgement) => {
+            let loads = judgement.loads;
+            let [region, acid, nutrient, mark] = match judgement.verdict {
+                Verdict::Within => [0, 0, 0, 0],
+                Verdict::Over {
+                    region,
+                    acid,
+                    nutrient,
+                } => [region, acid, nutrient, 1],
+            };
+            let numbers = [
+                loads.max_s,
+                loads.min_n,
+                loads.max_n,
+                loads.nut_n,
+                region,
+                acid,
+                nutrient,
+                mark,
+            ];
+            enter(&numbers, out)
+        }
+        Err(refusal) => refused(refusal),
+    },
+};
+
+mod c {
+    extern "C" {
+        pub fn forest_list(file: *const u8, file_len: usize, out: *mut u8, out_len: usize) -> u64;
+        pub fn forest_report(file: *const u8, file_len: usize, out: *mut u8, out_len: usize)
+            -> u64;
+        pub fn forest_rewrite(
+            record: *const u8,
+            record_len: usize,
+            out: *mut u8,
+            out_len: usize,
+        ) -> u64;
+        pub fn forest_check(site: *const u8, site_len: usize) -> u64;
+        pub fn forest_loads(site: *const u8, site_len: usize, out: *mut u64, out_len: usize)
+            -> u64;
+        pub fn forest_judge(site: *const u8, site_len: usize, out: *mut u64, out_len: usize)
+            -> u64;
+    }
+}
+
+const SHORT_BUFFER: u64 = 11 << 32;
+
+fn refused(refusal: Refusal) -> u64 {
+    ((refusal.rule as u64) << 32) + refusal.offset as u64
+}
+
+fn result(outcome: Result<usize, Refusal>) -> u64 {
+    outcome.map_or_else(refused, |count| count as u64)
+}
+
+fn enter(numbers: &[i64], out: &mut [u64]) -> u64 {
+    let Some(place) = out.get_mut(..numbers.len()) else {
+        return SHORT_BUFFER;
+    };
+    for (to, &number) in place.iter_mut().zip(numbers) {
+        *to = number as u64;
+    }
+    numbers.len() as u64
+}

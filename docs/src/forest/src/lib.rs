@@ -1,0 +1,17 @@
+//! Critical loads, exceedances and verdicts of forest sites, from document 01 alone.
+//!
+//! Numbers are `i64` throughout: the greatest product, Q × K × h³, is 3.75 × 10¹⁸.
+
+mod judgement;
+mod listing;
+mod record;
+mod refusal;
+mod site;
+mod terms;
+
+pub use judgement::{judge, Judgement, Verdict};
+pub use listing::{list, report};
+pub use record::{read_record, rewrite, write_record};
+pub use refusal::{Refusal, Rule};
+pub use site::{check, Entry, Site};
+pub use terms::{aluminium, hydrogen, loads, texture_class, Loads, Terms};
