@@ -1,12 +1,13 @@
 -- Laws of rule 7: bounds of its tables, and the lengths that they permit.
-use mathlib.Core.Path.{_≡_, refl}
+use mathlib.Core.Path.{_≡_, refl, sym, _∙_}
 use mathlib.Core.Logic.{⊎-elim}
 use mathlib.Core.Bool.{Bool, true, false, _&&_, false≢true}
 use Prim.Native.Nat.{ℕ, _*_, _%_, _≤_, _<_}
+use native.Mathlib.Nat.{mod-eq-of-lt}
 use native.Mathlib.Omega.{arith}
 use lib.Dec.{leb, eqb}
 use lib.ListN.{getD, List·getD-eq-default}
-use borrow.Author.Tests.{leb-true, le-leb, lt-leb, eqb-true}
+use borrow.Author.Tests.{leb-true, le-leb, lt-leb, eqb-true, eq-eqb}
 use Rattle.site.specs.declared.Site.{Site}
 use Rattle.site.specs.declared.Rule.the-variants.{BadLength}
 use Rattle.site.specs.declared.Checked.the-variants.{Passed}
@@ -63,6 +64,20 @@ permitted-parts t n e =
     let both = and-l (some && fits) whole all in
     (leb-true 1 n (and-l some fits both), leb-true n (w * m) (and-r some fits both), eqb-true (n % w) 0 (and-r (some && fits) whole all))
 
+pub parts-permitted : (t n : ℕ) → t < 16 → 1 ≤ n → n ≤ getD itemWidths t 1 * getD mostItems t 0 → n % getD itemWidths t 1 ≡ 0 → lengthPermitted t n ≡ true
+parts-permitted t n h some fits whole = permitted-items t n h some fits ∙ eq-eqb _ _ whole
+
+-- a field of one item has that item's length
+pub one-item : (t n : ℕ) → getD mostItems t 0 ≡ 1 → lengthPermitted t n ≡ true → n ≡ getD itemWidths t 1
+one-item t n one e =
+    let w = getD itemWidths t 1 in
+    let p = permitted-parts t n e in
+    let most : n ≤ w * 1 = rw one at (p .1) in
+    ⊎-elim
+    (λ (h : w ≤ n). omega arith)
+    (λ (h : n < w). let z : n ≡ 0 = sym (mod-eq-of-lt h) ∙ p .2 in absurd (omega (arith, p .0)))
+    (le-or-lt w n)
+
 -- what a permitted count of items says
 pub count-parts : (t : ℕ) (s : Site) → countRule t s ≡ Passed → (1 ≤ itemCount t s) × (itemCount t s ≤ getD mostItems t 0)
 unfolding countRule
@@ -71,6 +86,10 @@ count-parts t s e =
     let m = getD mostItems t 0 in
     let both = pass-then (leb 1 n && leb n m) BadLength Passed e .0 in
     (leb-true 1 n (and-l (leb 1 n) (leb n m) both), leb-true n m (and-r (leb 1 n) (leb n m) both))
+
+pub parts-counted : (t : ℕ) (s : Site) → 1 ≤ itemCount t s → itemCount t s ≤ getD mostItems t 0 → countRule t s ≡ Passed
+unfolding countRule
+parts-counted t s some most = rw (le-leb _ _ some, le-leb _ _ most)
 
 -- a tag that is none of 1 to 15 has no items, so no length and no count is permitted
 no-items : (t : ℕ) → (t < 16 → t ≡ 0) → getD mostItems t 0 ≡ 0

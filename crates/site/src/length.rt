@@ -2,36 +2,25 @@
 ghost use mathlib.Core.Path.{_≡_};
 ghost use Prim.Native.Nat.{_≤_};
 ghost use lib.ListN.{getD};
-ghost use Rattle.site.specs.Values.{mostItems, lengthPermitted, itemCount, countRule};
+ghost use Rattle.site.specs.Values.{itemWidths, mostItems, lengthPermitted, itemCount, countRule};
 use crate::Checked;
 use crate::Rule;
 use crate::Site;
 use crate::numbers::wide;
 
 // By tag from 0: the bytes of an item, and how many items there may be.
-const ITEM_WIDTHS: [usize; 16] = [1, 1, 1, 2, 1, 1, 2, 4, 2, 1, 2, 2, 2, 2, 2, 4];
+const ITEM_WIDTHS: [u8; 16] = [1, 1, 1, 2, 1, 1, 2, 4, 2, 1, 2, 2, 2, 2, 2, 4];
 
-const MOST_ITEMS: [usize; 16] = [0, 8, 1, 1, 1, 1, 1, 4, 1, 1, 1, 1, 1, 1, 1, 1];
+const MOST_ITEMS: [u8; 16] = [0, 8, 1, 1, 1, 1, 1, 4, 1, 1, 1, 1, 1, 1, 1, 1];
 
-pub fn length_permitted(tag: u8, n: usize) -> bool
-    ensures { λ r. ⌜ r ≡ lengthPermitted tag n ⌝ }
+fn item_width(tag: u8) -> usize
+    ensures { λ r. ⌜ r ≡ getD itemWidths tag 1 ⌝ }
 {
     let t = wide(tag);
-    if 16 <= t {
-        return false;
+    if t < 16 {
+        return wide(ITEM_WIDTHS[t]);
     }
-    if n < 1 {
-        return false;
-    }
-    let width = ITEM_WIDTHS[t];
-    if width * MOST_ITEMS[t] < n {
-        return false;
-    }
-    // most fields are one item, and need no division
-    if n == width {
-        return true;
-    }
-    n % width == 0
+    1
 }
 
 fn most_items(tag: u8) -> usize
@@ -39,9 +28,29 @@ fn most_items(tag: u8) -> usize
 {
     let t = wide(tag);
     if t < 16 {
-        return MOST_ITEMS[t];
+        return wide(MOST_ITEMS[t]);
     }
     0
+}
+
+pub fn length_permitted(tag: u8, n: usize) -> bool
+    ensures { λ r. ⌜ r ≡ lengthPermitted tag n ⌝ }
+{
+    if 16 <= tag {
+        return false;
+    }
+    if n < 1 {
+        return false;
+    }
+    let width = item_width(tag);
+    if width * most_items(tag) < n {
+        return false;
+    }
+    // most fields are one item, and need no division
+    if n == width {
+        return true;
+    }
+    n % width == 0
 }
 
 fn item_count(site: Site, tag: u8) -> usize

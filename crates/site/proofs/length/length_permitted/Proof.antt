@@ -1,89 +1,66 @@
-use mathlib.Core.Path.{_≡_, sym, ap, _∙_}
-use Prim.Native.Nat.{ℕ, _%_, _≤_, _<_}
+use mathlib.Core.Path.{_≡_, sym}
+use Prim.Native.Nat.{_%_, _<_}
 use native.Mathlib.Nat.{mul-le-mul, mod-self}
 use native.Mathlib.Omega.{arith}
 use lib.Dec.{eqb}
-use lib.ListN.{length, getD}
-use borrow.Author.Needs.{needs}
-use Rattle.site.specs.Values.{itemWidths, mostItems, lengthPermitted}
-use Rattle.site.proofs.PartLaws.{getD-within}
+use lib.ListN.{getD}
+use Rattle.site.specs.Values.{itemWidths, lengthPermitted}
 use Rattle.site.proofs.LengthLaws.{width-positive, width-at-most, items-at-most, permitted-past, permitted-none, permitted-more, permitted-items}
+use borrow.Author.Needs.{needs}
 use Rattle.site.proofs.length.length_permitted.Statement.{statement}
 use Rattle.site.proofs.length.length_permitted.Tie as tie
 
-width-is : (c : tie.Else2) → getD itemWidths (c .before .before .wide .result) 0 ≡ getD itemWidths (c .before .before .before .args .tag) 1
-width-is c =
-    let h : c .before .before .wide .result < length itemWidths = omega arith in
-    getD-within itemWidths (c .before .before .wide .result) 0 1 h ∙ ap (λ (t : ℕ). getD itemWidths t 1) (c .before .before .wide .ensures .0)
-
-items-is : (c : tie.Else2) → getD mostItems (c .before .before .wide .result) 0 ≡ getD mostItems (c .before .before .before .args .tag) 0
-items-is c = ap (λ (t : ℕ). getD mostItems t 0) (c .before .before .wide .ensures .0)
-
 items : (c : tie.Else3)
-    → lengthPermitted (c .before .before .before .before .args .tag) (c .before .before .before .before .args .n)
-    ≡ eqb (c .before .before .before .before .args .n % getD itemWidths (c .before .before .before .before .args .tag) 1) 0
+    → lengthPermitted (c .before .before .before .before .before .args .tag) (c .before .before .before .before .before .args .n)
+    ≡ eqb (c .before .before .before .before .before .args .n % getD itemWidths (c .before .before .before .before .before .args .tag) 1) 0
 items c =
-    let a = c .before .before .before .before .args in
+    let a = c .before .before .before .before .before .args in
     let h : a .tag < 16 = omega arith in
-    permitted-items (a .tag) (a .n) h (c .before .if2 .left) (rw (width-is (c .before), items-is (c .before)) at (c .if3 .left))
-
-wide-requires : tie.Need-wide-requires
-wide-requires c κs = search needs
+    permitted-items (a .tag) (a .n) h (c .before .before .before .if2 .left) (rw (c .before .before .item-width .ensures, c .before .most-items .ensures) at (c .if3 .left))
 
 returns : tie.Need-returns
-returns c =
-    let h : 16 ≤ c .before .before .args .tag = omega arith in
-    sym (permitted-past _ _ h)
+returns c = sym (permitted-past _ _ (c .if1 .taken))
 
 returns-2 : tie.Need-returns-2
 returns-2 c =
-    let h : c .before .before .before .args .tag < 16 = omega arith in
+    let h : c .before .before .args .tag < 16 = omega arith in
     sym (permitted-none _ _ h (c .if2 .taken))
 
-mul-width : tie.Need-mul-width
-mul-width c = search needs
+item-width-requires : tie.Need-item-width-requires
+item-width-requires c κs = search needs
 
-array-read-width : tie.Need-array-read-width
-array-read-width c = search needs
+most-items-requires : tie.Need-most-items-requires
+most-items-requires c κs = search needs
 
 mul-if3 : tie.Need-mul-if3
-mul-if3 c = search needs
-
-array-read-if3 : tie.Need-array-read-if3
-array-read-if3 c = search needs
-
-mul-if3-2 : tie.Need-mul-if3-2
-mul-if3-2 c =
-    let t = c .before .before .before .args .tag in
-    rw (width-is c, items-is c) (omega (arith, mul-le-mul (width-at-most t) (items-at-most t)))
+mul-if3 c =
+    let t = c .before .before .before .before .args .tag in
+    rw (c .before .item-width .ensures, c .most-items .ensures) (omega (arith, mul-le-mul (width-at-most t) (items-at-most t)))
 
 returns-3 : tie.Need-returns-3
 returns-3 c =
-    let a = c .before .before .before .before .args in
+    let a = c .before .before .before .before .before .args in
     let h : a .tag < 16 = omega arith in
-    sym (permitted-more (a .tag) (a .n) h (c .before .if2 .left) (rw (width-is (c .before), items-is (c .before)) at (c .if3 .taken)))
+    sym (permitted-more (a .tag) (a .n) h (c .before .before .before .if2 .left) (rw (c .before .before .item-width .ensures, c .before .most-items .ensures) at (c .if3 .taken)))
 
 returns-4 : tie.Need-returns-4
-returns-4 c = rw (items (c .before), sym (width-is (c .before .before)), sym (c .if4 .taken), mod-self)
+returns-4 c = rw (items (c .before), sym (c .before .before .before .item-width .ensures), sym (c .if4 .taken), mod-self)
 
 rem-result : tie.Need-rem-result
-rem-result c = rw (width-is (c .before .before)) (width-positive (c .before .before .before .before .before .args .tag))
+rem-result c = rw (c .before .before .before .item-width .ensures) (width-positive (c .before .before .before .before .before .before .args .tag))
 
 returns-5 : tie.Need-returns-5
-returns-5 c = rw (items (c .before), sym (width-is (c .before .before)))
+returns-5 c = rw (items (c .before), sym (c .before .before .before .item-width .ensures))
 
 pub length-permitted-spec : {M : Type 1} → statement M
 length-permitted-spec =
     tie.close
     (tie.spec
-    wide-requires
     returns
     returns-2
-    mul-width
-    array-read-width
+    item-width-requires
+    most-items-requires
     mul-if3
-    array-read-if3
-    mul-if3-2
     returns-3
     returns-4
     rem-result

@@ -1,0 +1,67 @@
+-- Record A1 of document 01: 78 bytes, read and written again by the definitions.
+use mathlib.Core.Path.{_≡_, refl}
+use mathlib.Core.List.{List, [], _∷_}
+use Prim.Native.Nat.{ℕ}
+use Rattle.site.specs.declared.Site.{Site}
+use Rattle.site.specs.declared.Entry.{Entry}
+use Rattle.site.specs.Bounds.{noEntry}
+use Rattle.site.specs.Values.{lengthPermitted, valueRule, standRule, between, nameByte, allOf, entryRanged, risingFrom, sharesOf}
+use Rattle.record.specs.Bytes.{fieldOf, table, entryAt, entriesBytes}
+use Rattle.record.specs.Field.{blankSite, store, value}
+use Rattle.record.specs.Reader.{refusedAt, accepted, headRule, unless, walk}
+use Rattle.record.specs.Outer.{outerRule, nextOf, found, recordIn, recordAt, alone, onlyOne, readRecord}
+use Rattle.record.specs.Writer.{encodeFields, encode}
+
+abbrev bytesA1 : List ℕ
+bytesA1 =
+    82 ∷ 0 ∷ 75
+    ∷ 1 ∷ 0 ∷ 2 ∷ 65 ∷ 49
+    ∷ 2 ∷ 0 ∷ 1 ∷ 1
+    ∷ 3 ∷ 0 ∷ 2 ∷ 10 ∷ 65
+    ∷ 4 ∷ 0 ∷ 1 ∷ 50
+    ∷ 5 ∷ 0 ∷ 1 ∷ 1
+    ∷ 6 ∷ 0 ∷ 2 ∷ 0 ∷ 200
+    ∷ 7 ∷ 0 ∷ 4 ∷ 0 ∷ 100 ∷ 7 ∷ 208
+    ∷ 8 ∷ 0 ∷ 2 ∷ 0 ∷ 50
+    ∷ 9 ∷ 0 ∷ 1 ∷ 80
+    ∷ 10 ∷ 0 ∷ 2 ∷ 1 ∷ 44
+    ∷ 11 ∷ 0 ∷ 2 ∷ 3 ∷ 232
+    ∷ 12 ∷ 0 ∷ 2 ∷ 11 ∷ 184
+    ∷ 13 ∷ 0 ∷ 2 ∷ 3 ∷ 232
+    ∷ 14 ∷ 0 ∷ 2 ∷ 0 ∷ 20
+    ∷ 15 ∷ 0 ∷ 4 ∷ 1 ∷ 244 ∷ 2 ∷ 188
+    ∷ []
+
+abbrev pine : Entry
+pine = record { species = 0; share = 100; «yield_kg» = 2000 }
+
+abbrev siteA1 : Site
+siteA1 = record {
+  name = 65 ∷ 49 ∷ 0 ∷ 0 ∷ 0 ∷ 0 ∷ 0 ∷ 0 ∷ [];
+  «name_len» = 2;
+  parent = 1;
+  clay = 10;
+  sand = 65;
+  depth = 50;
+  drainage = 1;
+  percolation = 200;
+  stand = pine ∷ noEntry ∷ noEntry ∷ noEntry ∷ [];
+  entries = 1;
+  immobilisation = 50;
+  available = 80;
+  «base_deposition» = 300;
+  ratio = 1000;
+  gibbsite = 3000;
+  ceiling = 1000;
+  leachate = 20;
+  sulphur = 500;
+  nitrogen = 700;
+}
+
+pub a1-read : readRecord bytesA1 ≡ accepted siteA1
+unfolding readRecord onlyOne alone recordAt recordIn found nextOf outerRule headRule unless walk refusedAt accepted lengthPermitted table entryAt store valueRule standRule between nameByte allOf entryRanged risingFrom sharesOf blankSite
+a1-read = refl
+
+pub a1-written : encode siteA1 ≡ bytesA1
+unfolding encode encodeFields fieldOf value entriesBytes
+a1-written = refl

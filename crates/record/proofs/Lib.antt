@@ -1,0 +1,17 @@
+pub mod TableLaws
+pub mod EntryLaws
+pub mod FieldBytes
+pub mod WalkLaws
+pub mod OuterLaws
+pub mod PutLaws
+pub mod ValueLaws
+pub mod EncodeLaws
+pub mod ReadWritten
+pub mod Parsed
+pub mod PassesLaw
+pub mod WrittenRead
+pub mod Place
+pub mod Locality
+pub mod RoundTrip
+pub mod WriteLaws
+pub mod Example

@@ -1,0 +1,169 @@
+use mathlib.Core.Path.{_≡_, refl, sym, _∙_}
+use Prim.Native.Nat.{_+_, _-_, _≤_}
+use native.Mathlib.Omega.{arith}
+use lib.ListN.{length, getD, drop, length-take, length-drop}
+use denote.Ref.{now}
+use borrow.Author.Needs.{needs}
+use Rattle.site.specs.declared.Checked.the-variants.{Passed}
+use Rattle.site.specs.Values.{due}
+use Rattle.record.specs.Bytes.{statedLen}
+use Rattle.record.specs.Field.{blankSite}
+use Rattle.record.specs.Reader.{accepted, headRule, walk}
+use Rattle.record.proofs.WalkLaws.{HeadOk, head-passed, part-permitted, walk-head, walk-value, walk-next, walk-done, walk-more}
+use Rattle.record.proofs.inner.read_fields.Statement.{statement}
+use Rattle.record.proofs.inner.read_fields.Tie as tie
+
+abbrev Inv-loop : tie.InvT-loop
+Inv-loop part base site₀ rest₀ at₀ k₀ site rest at k = (k ≤ 15) × (at + length rest ≡ base + length part) × (walk due blankSite part base ≡ walk (drop k due) site rest at)
+
+abbrev μ-loop : tie.MeasureT-loop
+μ-loop part base site₀ rest₀ at₀ k₀ site rest at k = 15 - k
+
+head-is : (c : tie.After-enum-told Inv-loop μ-loop) → headRule (getD due (c .before .before .before .before .loop .k) 0) (c .before .before .before .before .loop .rest .now) ≡ Passed
+head-is c = sym (c .before .before .head-rule .ensures) ∙ c .enum-told .given .1
+
+ok : (c : tie.After-enum-told Inv-loop μ-loop) → HeadOk (getD due (c .before .before .before .before .loop .k) 0) (c .before .before .before .before .loop .rest .now)
+ok c = head-passed _ _ (head-is c)
+
+end-is : (c : tie.After-stated-len Inv-loop μ-loop) → 3 + c .stated-len .result ≡ 3 + statedLen (c .before .before .before .before .before .loop .rest .now)
+end-is c = omega arith
+
+blank-requires : tie.Need-blank-requires Inv-loop μ-loop
+blank-requires c κs = search needs
+
+loop-holds : tie.Need-loop-holds Inv-loop μ-loop
+loop-holds c = (search needs, refl, rw (c .blank .ensures))
+
+array-read-tag : tie.Need-array-read-tag Inv-loop μ-loop
+array-read-tag c = search needs
+
+head-rule-requires : tie.Need-head-rule-requires Inv-loop μ-loop
+head-rule-requires c κs = search needs
+
+enum-known-rule : tie.Need-enum-known-rule Inv-loop μ-loop
+enum-known-rule c = search needs
+
+refused-requires : tie.Need-refused-requires Inv-loop μ-loop
+refused-requires c κs = search needs
+
+returns : tie.Need-returns Inv-loop μ-loop
+returns c =
+    let h = c .before .before .before .before in
+    c .refused .ensures ∙ sym (h .before .before .loop .inv .2 ∙ walk-head due _ (h .before .loop-test .taken) _ _ _ _ (sym (h .head-rule .ensures) ∙ c .before .before .rule .given .1))
+
+enum-told : tie.Need-enum-told Inv-loop μ-loop
+enum-told c = search needs
+
+stated-len-requires : tie.Need-stated-len-requires Inv-loop μ-loop
+stated-len-requires c κs = search needs
+
+add-end : tie.Need-add-end Inv-loop μ-loop
+add-end c = search needs
+
+sub-store-field : tie.Need-sub-store-field Inv-loop μ-loop
+sub-store-field c = search needs
+
+part-store-field-start : tie.Need-part-store-field-start Inv-loop μ-loop
+part-store-field-start c = search needs
+
+part-store-field-end : tie.Need-part-store-field-end Inv-loop μ-loop
+part-store-field-end c = omega (arith, ok (c .before) .inside)
+
+store-field-requires : tie.Need-store-field-requires Inv-loop μ-loop
+store-field-requires c κs = part-permitted _ _ _ (ok (c .before .before)) (end-is (c .before))
+
+field-rule-requires : tie.Need-field-rule-requires Inv-loop μ-loop
+field-rule-requires c κs = search needs
+
+enum-known-rule-2 : tie.Need-enum-known-rule-2 Inv-loop μ-loop
+enum-known-rule-2 c = search needs
+
+refused-requires-2 : tie.Need-refused-requires-2 Inv-loop μ-loop
+refused-requires-2 c κs = search needs
+
+returns-2 : tie.Need-returns-2 Inv-loop μ-loop
+returns-2 c =
+    let f = c .before .before .before .before in
+    let e = f .before .before .before .before in
+    let h = e .before .before in
+    c .refused2 .ensures
+    ∙ sym (h .before .before .loop .inv .2
+    ∙ walk-value due _ (h .before .loop-test .taken) _ _ _ (head-is e) _ _ (end-is (f .before .before .before)) (f .before .store-field .ensures) _ (sym (f .field-rule .ensures .0) ∙ c .before .before .rule2 .given .1))
+
+enum-told-2 : tie.Need-enum-told-2 Inv-loop μ-loop
+enum-told-2 c = search needs
+
+sub-rest : tie.Need-sub-rest Inv-loop μ-loop
+sub-rest c = omega (arith, ok (c .before .before .before .before .before .before) .inside)
+
+part-rest-start : tie.Need-part-rest-start Inv-loop μ-loop
+part-rest-start c = omega (arith, ok (c .before .before .before .before .before .before) .inside)
+
+part-rest-end : tie.Need-part-rest-end Inv-loop μ-loop
+part-rest-end c = search needs
+
+add-at : tie.Need-add-at Inv-loop μ-loop
+add-at c = omega (arith, ok (c .before .before .before .before .before .before .before) .inside)
+
+add-k : tie.Need-add-k Inv-loop μ-loop
+add-k c = search needs
+
+loop-less : tie.Need-loop-less Inv-loop μ-loop
+loop-less c = search needs
+
+loop-again : tie.Need-loop-again Inv-loop μ-loop
+loop-again c =
+    let f = c .before .before .before in
+    let e = f .before .before .before .before in
+    let h = e .before .before in (
+      search needs,
+      simp (length-take, length-drop) (omega (arith, ok e .inside)),
+      h .before .before .loop .inv .2
+          ∙ walk-next due _ (h .before .loop-test .taken) _ _ _ (head-is e) _ _ (end-is (f .before .before .before)) (f .before .store-field .ensures) (sym (f .field-rule .ensures .0) ∙ c .before .enum-told2 .given .1),
+    )
+
+returns-3 : tie.Need-returns-3 Inv-loop μ-loop
+unfolding accepted
+returns-3 c = sym (c .before .before .loop .inv .2 ∙ walk-done _ _ _ _ (c .before .loop-test .left) (c .before .before .loop .inv .0) (c .if1 .taken))
+
+refused-requires-3 : tie.Need-refused-requires-3 Inv-loop μ-loop
+refused-requires-3 c κs = search needs
+
+returns-4 : tie.Need-returns-4 Inv-loop μ-loop
+returns-4 c = c .refused3 .ensures ∙ sym (c .before .before .before .loop .inv .2 ∙ walk-more _ _ _ _ (c .before .before .loop-test .left) (c .before .before .before .loop .inv .0) (c .before .if1 .left))
+
+pub read-fields-spec : {M : Type 1} → statement M
+read-fields-spec =
+    tie.close
+    (tie.spec
+    Inv-loop
+    μ-loop
+    blank-requires
+    loop-holds
+    array-read-tag
+    head-rule-requires
+    enum-known-rule
+    refused-requires
+    returns
+    enum-told
+    stated-len-requires
+    add-end
+    sub-store-field
+    part-store-field-start
+    part-store-field-end
+    store-field-requires
+    field-rule-requires
+    enum-known-rule-2
+    refused-requires-2
+    returns-2
+    enum-told-2
+    sub-rest
+    part-rest-start
+    part-rest-end
+    add-at
+    add-k
+    loop-less
+    loop-again
+    returns-3
+    refused-requires-3
+    returns-4)

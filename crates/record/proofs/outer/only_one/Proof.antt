@@ -1,0 +1,42 @@
+use borrow.Author.Needs.{needs}
+use borrow.Author.Tests.{eq-eqb, ne-eqb}
+use Rattle.record.specs.Reader.{accepted}
+use Rattle.record.specs.Outer.{alone, onlyOne}
+use Rattle.record.proofs.outer.only_one.Statement.{statement}
+use Rattle.record.proofs.outer.only_one.Tie as tie
+
+enum-known-outcome : tie.Need-enum-known-outcome
+enum-known-outcome c = search needs
+
+refused-requires : tie.Need-refused-requires
+refused-requires c κs = search needs
+
+enum-told : tie.Need-enum-told
+enum-told c = search needs
+
+returns : tie.Need-returns
+unfolding onlyOne alone accepted
+returns c = rw (c .before .before .enum-told .given .1, eq-eqb _ _ (c .if1 .taken))
+
+refused-requires-2 : tie.Need-refused-requires-2
+refused-requires-2 c κs = search needs
+
+returns-2 : tie.Need-returns-2
+unfolding onlyOne alone
+returns-2 c = rw (c .before .before .outcome .given .1) (c .refused .ensures)
+
+returns-3 : tie.Need-returns-3
+unfolding onlyOne alone
+returns-3 c = rw (c .before .before .before .enum-told .given .1, ne-eqb _ _ (c .before .if1 .left)) (c .refused2 .ensures)
+
+pub only-one-spec : {M : Type 1} → statement M
+only-one-spec =
+    tie.close
+    (tie.spec
+    enum-known-outcome
+    refused-requires
+    enum-told
+    returns
+    refused-requires-2
+    returns-2
+    returns-3)

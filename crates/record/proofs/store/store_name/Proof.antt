@@ -1,0 +1,51 @@
+use borrow.Author.Needs.{needs}
+use Rattle.record.specs.Bytes.{table}
+use Rattle.record.specs.Field.{store}
+use Rattle.record.proofs.store.store_name.Statement.{statement}
+use Rattle.record.proofs.store.store_name.Tie as tie
+
+byte-requires : tie.Need-byte-requires
+byte-requires c κs = search needs
+
+byte-requires-2 : tie.Need-byte-requires-2
+byte-requires-2 c κs = search needs
+
+byte-requires-3 : tie.Need-byte-requires-3
+byte-requires-3 c κs = search needs
+
+byte-requires-4 : tie.Need-byte-requires-4
+byte-requires-4 c κs = search needs
+
+byte-requires-5 : tie.Need-byte-requires-5
+byte-requires-5 c κs = search needs
+
+byte-requires-6 : tie.Need-byte-requires-6
+byte-requires-6 c κs = search needs
+
+byte-requires-7 : tie.Need-byte-requires-7
+byte-requires-7 c κs = search needs
+
+byte-requires-8 : tie.Need-byte-requires-8
+byte-requires-8 c κs = search needs
+
+cast-s : tie.Need-cast-s
+cast-s c = search needs
+
+returns : tie.Need-returns
+unfolding store table
+returns c = cc
+
+pub store-name-spec : {M : Type 1} → statement M
+store-name-spec =
+    tie.close
+    (tie.spec
+    byte-requires
+    byte-requires-2
+    byte-requires-3
+    byte-requires-4
+    byte-requires-5
+    byte-requires-6
+    byte-requires-7
+    byte-requires-8
+    cast-s
+    returns)

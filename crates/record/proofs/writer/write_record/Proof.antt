@@ -1,0 +1,73 @@
+use mathlib.Core.Path.{_≡_, sym, ap, _∙_}
+use Prim.Native.Nat.{ℕ, _+_}
+use native.Mathlib.Omega.{arith}
+use lib.ListN.{length}
+use borrow.Author.Needs.{needs}
+use Rattle.site.specs.declared.Checked.the-variants.{Passed}
+use Rattle.site.specs.Check.{siteRule}
+use Rattle.record.specs.Writer.{encode}
+use Rattle.record.proofs.ValueLaws.{unmapped}
+use Rattle.record.proofs.EncodeLaws.{record-length}
+use Rattle.record.specs.RoundTrip.{Sized}
+use Rattle.record.proofs.WriteLaws.{write-broken, write-short, write-whole}
+use Rattle.record.proofs.writer.write_record.Statement.{statement}
+use Rattle.record.proofs.writer.write_record.Tie as tie
+
+sized : (c : tie.Start) → Sized (c .args .site)
+sized c = record { name = search needs; stand = search (needs, unmapped) }
+
+passed : (c : tie.After-enum-told) → siteRule (c .before .before .before .before .args .site) ≡ Passed
+passed c = sym (c .before .before .check-site .ensures .0) ∙ c .enum-told .given .1
+
+long : (c : tie.After-body-len) → length (encode (c .before .before .before .before .before .args .site)) ≡ 3 + c .body-len .result
+long c =
+    record-length _ (sized (c .before .before .before .before .before)) (passed (c .before)) ∙ ap (λ (n : ℕ). 3 + n) (sym (c .body-len .ensures .0))
+
+check-site-requires : tie.Need-check-site-requires
+check-site-requires c κs = search needs
+
+enum-known-rule : tie.Need-enum-known-rule
+enum-known-rule c = search needs
+
+returns : tie.Need-returns
+returns c = write-broken _ (sized (c .before .before .before .before .before)) _ _ (sym (c .before .before .before .check-site .ensures .0) ∙ c .before .rule .given .1)
+
+enum-told : tie.Need-enum-told
+enum-told c = search needs
+
+body-len-requires : tie.Need-body-len-requires
+body-len-requires c κs = search needs
+
+add-if1 : tie.Need-add-if1
+add-if1 c = search needs
+
+returns-2 : tie.Need-returns-2
+returns-2 c = write-short _ (sized (c .before .before .before .before .before .before)) _ (passed (c .before .before)) (omega (arith, long (c .before)))
+
+put-record-requires : tie.Need-put-record-requires
+put-record-requires c κs = (passed (c .before .before .before), long (c .before .before), omega arith, search needs)
+
+add-t6 : tie.Need-add-t6
+add-t6 c = search needs
+
+same-length : tie.Need-same-length
+same-length c = search needs
+
+returns-3 : tie.Need-returns-3
+returns-3 c = write-whole _ (sized (c .before .before .before .before .before .before .before .before .before .before)) _ (passed (c .before .before .before .before .before .before)) _ (long (c .before .before .before .before .before)) (omega arith) _ (c .before .before .put-record .ensures)
+
+pub write-record-spec : {M : Type 1} → statement M
+write-record-spec =
+    tie.close
+    (tie.spec
+    check-site-requires
+    enum-known-rule
+    returns
+    enum-told
+    body-len-requires
+    add-if1
+    returns-2
+    put-record-requires
+    add-t6
+    same-length
+    returns-3)

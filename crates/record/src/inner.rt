@@ -1,0 +1,79 @@
+// The fields inside a record, read from the left.
+ghost use mathlib.Core.Path.{_≡_};
+ghost use Prim.Native.Nat.{_+_, _<_, _^_};
+ghost use lib.ListN.{length};
+ghost use Rattle.site.specs.Values.{due};
+ghost use Rattle.record.specs.Field.{blankSite};
+ghost use Rattle.record.specs.Reader.{headRule, walk};
+use crate::Outcome;
+use crate::Read;
+use crate::blank::blank;
+use crate::blank::refused;
+use crate::bytes::stated_len;
+use crate::store::store_field;
+use site::Checked;
+use site::DUE;
+use site::Rule;
+use site::field_rule;
+use site::length_permitted;
+
+// Rules 5, 6 and 7 at the bytes that are left.
+fn head_rule(rest: &[u8], tag: u8) -> Checked
+    ensures { λ r. ⌜ r ≡ headRule tag (now (rest .entry)) ⌝ }
+{
+    let left = rest.len();
+    if left == 0 {
+        return Checked::Broken(Rule::InnerTag);
+    }
+    if left < 3 {
+        return Checked::Broken(Rule::InnerCut);
+    }
+    let first = rest[0];
+    if first == tag {
+        let n = stated_len(rest);
+        if left - 3 < n {
+            return Checked::Broken(Rule::InnerCut);
+        }
+        if length_permitted(tag, n) {
+            return Checked::Passed;
+        }
+        return Checked::Broken(Rule::BadLength);
+    }
+    Checked::Broken(Rule::InnerTag)
+}
+
+// The part starts at `base` of the lent input.
+pub fn read_fields(part: &[u8], base: usize) -> Read
+    requires { ⌜ base + length (now part) < 2 ^ 64 ⌝ }
+    ensures { λ r. ⌜ r ≡ walk due blankSite (now (part .entry)) base ⌝ }
+{
+    let mut site = blank();
+    let mut rest = part;
+    let mut at = base;
+    let mut k: usize = 0;
+    while k < 15 {
+        let tag = DUE[k];
+        match head_rule(rest, tag) {
+            Checked::Broken(rule) => {
+                return refused(rule, at);
+            }
+            Checked::Passed => {}
+        }
+        let end = 3 + stated_len(rest);
+        site = store_field(site, tag, &rest[3..end]);
+        match field_rule(site, tag) {
+            Checked::Broken(rule) => {
+                return refused(rule, at);
+            }
+            Checked::Passed => {}
+        }
+        rest = &rest[end..];
+        at = at + end;
+        k = k + 1;
+    }
+    if rest.len() == 0 {
+        let outcome = Outcome::Accepted;
+        return Read { outcome, site };
+    }
+    refused(Rule::InnerTag, at)
+}

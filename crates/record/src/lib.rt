@@ -1,0 +1,40 @@
+// Site records: reading and writing one.
+mod blank;
+mod bytes;
+mod inner;
+mod outer;
+mod put;
+mod store;
+mod value;
+mod writer;
+
+pub use outer::read_at;
+pub use outer::read_record;
+use site::Rule;
+use site::Site;
+pub use writer::write_record;
+
+// What came of a reading: a site, or the rule that is broken and the offset of the fault.
+pub enum Outcome {
+    Accepted,
+    Refused { rule: Rule, at: usize },
+}
+
+// The single record of a file. A refusal carries the blank site.
+pub struct Read {
+    pub outcome: Outcome,
+    pub site: Site,
+}
+
+// A record of a file, and where the next one starts.
+pub struct Found {
+    pub outcome: Outcome,
+    pub site: Site,
+    pub next: usize,
+}
+
+// What came of a write: how many bytes it wrote, or the rule that is broken.
+pub enum Written {
+    Wrote(usize),
+    Refused(Rule),
+}

@@ -1,0 +1,108 @@
+// A record of a file, and the file of at most one record.
+ghost use mathlib.Core.Path.{_≡_};
+ghost use lib.ListN.{drop};
+ghost use Rattle.record.specs.Outer.{outcomeNumbers, outerRule, found, recordAt, onlyOne, readRecord};
+ghost use Rattle.record.specs.Writer.{encode};
+use crate::Found;
+use crate::Outcome;
+use crate::Read;
+use crate::blank::refused;
+use crate::bytes::stated_len;
+use crate::inner::read_fields;
+use site::Checked;
+use site::Rule;
+
+// Rules 2 and 3 at the bytes that are left.
+fn front_rule(rest: &[u8]) -> Checked
+    ensures { λ r. ⌜ r ≡ outerRule (now (rest .entry)) ⌝ }
+{
+    let left = rest.len();
+    if left < 3 {
+        return Checked::Broken(Rule::OuterCut);
+    }
+    let first = rest[0];
+    if first == 82 {
+        let n = stated_len(rest);
+        if 255 < n {
+            return Checked::Broken(Rule::OuterCut);
+        }
+        if left - 3 < n {
+            return Checked::Broken(Rule::OuterCut);
+        }
+        return Checked::Passed;
+    }
+    Checked::Broken(Rule::OuterTag)
+}
+
+// The same at an offset, which may lie past the end.
+fn outer_rule(file: &[u8], at: usize) -> Checked
+    ensures { λ r. ⌜ r ≡ outerRule (drop at (now (file .entry))) ⌝ }
+{
+    if file.len() < at {
+        return Checked::Broken(Rule::OuterCut);
+    }
+    front_rule(&file[at..])
+}
+
+fn found_from(r: Read, at: usize, end: usize) -> Found
+    ensures { λ x. ⌜ x ≡ found r at end ⌝ }
+{
+    let outcome = r.outcome;
+    let site = r.site;
+    match outcome {
+        Outcome::Accepted => Found {
+            outcome,
+            site,
+            next: end,
+        },
+        Outcome::Refused { rule: _, at: _ } => Found {
+            outcome,
+            site,
+            next: at,
+        },
+    }
+}
+
+// The record whose outer field starts at `at`, which may lie past the end.
+pub fn read_at(file: &[u8], at: usize) -> Found
+    ensures answer { λ r. ⌜ r ≡ recordAt (now (file .entry)) at ⌝ }
+    ensures numbers { λ r. ⌜ outcomeNumbers (r .outcome) ≡ outcomeNumbers (recordAt (now (file .entry)) at .outcome) ⌝ }
+{
+    match outer_rule(file, at) {
+        Checked::Broken(rule) => {
+            return found_from(refused(rule, at), at, at);
+        }
+        Checked::Passed => {}
+    }
+    let start = at + 3;
+    let end = start + stated_len(&file[at..]);
+    found_from(read_fields(&file[start..end], start), at, end)
+}
+
+fn only_one(x: Found, n: usize) -> Read
+    ensures { λ r. ⌜ r ≡ onlyOne x n ⌝ }
+{
+    let outcome = x.outcome;
+    let site = x.site;
+    match outcome {
+        Outcome::Refused { rule, at } => refused(rule, at),
+        Outcome::Accepted => {
+            if x.next == n {
+                return Read { outcome, site };
+            }
+            refused(Rule::TooMany, x.next)
+        }
+    }
+}
+
+// The single record of a file of at most one.
+pub fn read_record(file: &[u8]) -> Read
+    ensures answer { λ r. ⌜ r ≡ readRecord (now (file .entry)) ⌝ }
+    ensures numbers { λ r. ⌜ outcomeNumbers (r .outcome) ≡ outcomeNumbers (readRecord (now (file .entry)) .outcome) ⌝ }
+    ensures written_again { λ r. ⌜ (r .outcome ≡ Outcome.Accepted → encode (r .site) ≡ now (file .entry)) ⌝ }
+{
+    if file.len() == 0 {
+        return refused(Rule::NoBytes, 0);
+    }
+    only_one(read_at(file, 0), file.len())
+}
