@@ -1,0 +1,9 @@
+pub mod MapLaws
+pub mod WalkLaws
+pub mod EveryLaws
+pub mod TurnLaws
+pub mod LoopLaws
+pub mod Demand3Laws
+pub mod ListLaws
+pub mod ShownLaws
+pub mod ReportLaws

@@ -1,0 +1,48 @@
+-- How many bytes are shown of a text.
+use Prim.Native.Nat.{ℕ, _≤_}
+use mathlib.Core.Path.{_≡_, refl, sym, ap, _∙_}
+use mathlib.Core.Bool.{Bool, true, false}
+use mathlib.Core.List.{List, _++_}
+use native.Mathlib.Omega.{arith}
+use lib.Dec.{leb}
+use lib.ListN.{length, take, drop, length-append}
+use Rattle.site.specs.declared.Rule.{Rule}
+use Rattle.site.specs.declared.Rule.the-variants.{BufferShort}
+use Rattle.text.specs.declared.Listed.{Listed}
+use Rattle.text.specs.declared.Listed.the-variants.{Bytes, Refused}
+use Rattle.text.specs.Answer.{held}
+use Rattle.text.proofs.AnswerLaws.{Answered, written}
+use Rattle.listing.specs.Listing.{shownLength}
+
+-- the clauses of the call that says how many
+abbrev Shown : List ℕ → List ℕ → List ℕ → ℕ → Type 0
+Shown text d e k =
+    ((k ≤ length e) × (k ≡ length (take k e)))
+    × ((k ≡ shownLength text d) × ((e ≡ held text d) × (81551 ≤ length d → take k e ≡ text)))
+
+pub shown-some : (text d : List ℕ) {e : List ℕ} {r : Listed} (k : ℕ) → r ≡ Bytes k → Answered text d e r → Shown text d e k
+shown-some text d {e} {r} k b a = go (leb (length text) (length d)) refl
+  where
+    shows : take k e ≡ text
+    shows = written text d e r a k b
+
+    go : (t : Bool) → leb (length text) (length d) ≡ t → Shown text d e k
+    go true t =
+        let a′ : r ≡ Bytes (length text) = rw t at (a .0) in
+        let h′ : e ≡ text ++ drop (length text) d = rw t at (a .1 .0) in
+        let n : k ≡ length text = cc in
+        ((omega (arith, ap length h′, length-append text (drop (length text) d)), n ∙ sym (ap length shows)), (rw t n, (a .1 .0, λ m. shows)))
+    go false t =
+        let a′ : r ≡ Refused BufferShort 0 = rw t at (a .0) in
+        let z : _≡_ {A = ℕ} 0 1 = cc in
+        absurd (omega arith)
+
+pub shown-none : (text d : List ℕ) {e : List ℕ} {r : Listed} {rule : Rule} {at : ℕ} → r ≡ Refused rule at → Answered text d e r → Shown text d e 0
+shown-none text d {e} {r} b a = go (leb (length text) (length d)) refl
+  where
+    clash : {n : ℕ} {P : Type 0} → r ≡ Bytes n → P
+    clash q = let z : _≡_ {A = ℕ} 0 1 = cc in absurd (omega arith)
+
+    go : (t : Bool) → leb (length text) (length d) ≡ t → Shown text d e 0
+    go true t = clash (rw t at (a .0))
+    go false t = ((omega arith, refl), (rw t, (a .1 .0, λ m. clash (a .1 .1 .1 m))))

@@ -1,0 +1,15 @@
+-- `listing::walking::refused` meets its contract.
+use Rattle.listing.specs.Rows.{padded, walkedOf}
+use borrow.Author.Needs.{needs}
+use Rattle.listing.proofs.walking.refused.Statement.{statement}
+use Rattle.listing.proofs.walking.refused.Tie as tie
+
+blank-row-requires : tie.Need-blank-row-requires
+blank-row-requires c κs = search needs
+
+returns : tie.Need-returns
+unfolding walkedOf padded
+returns c = rw (c .blank-row .ensures)
+
+pub refused-spec : {M : Type 1} → statement M
+refused-spec = tie.close (tie.spec blank-row-requires returns)

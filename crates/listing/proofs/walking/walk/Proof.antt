@@ -1,0 +1,111 @@
+-- `listing::walking::walk` meets its contract: at each turn the rows so far, and the walk over the rest, give what the file holds.
+use Prim.Native.Nat.{_-_, _≤_, _<_}
+use mathlib.Core.Path.{_≡_, refl}
+use native.Mathlib.Omega.{arith}
+use borrow.Author.Needs.{needs}
+use denote.Ref.{now}
+use lib.ListN.{length, length-set}
+use Rattle.listing.specs.File.{contents}
+use Rattle.listing.specs.Rows.{padded}
+use Rattle.listing.proofs.WalkLaws.{contents-none}
+use Rattle.listing.proofs.LoopLaws.{So, so-start, so-end, so-full, turn-bad, turn-good, turn-on, with-numbers, with-fault}
+use Rattle.listing.proofs.walking.walk.Statement.{statement}
+use Rattle.listing.proofs.walking.walk.Tie as tie
+
+abbrev Inv-loop : tie.InvT-loop
+Inv-loop file rows₀ count₀ at₀ rows count at = (at ≤ length file) × (count ≤ 500) × (length rows ≡ 500) × So file rows count at
+
+abbrev μ-loop : tie.MeasureT-loop
+μ-loop file rows₀ count₀ at₀ rows count at = length file - at
+
+refused-requires : tie.Need-refused-requires Inv-loop μ-loop
+refused-requires c κs = search needs
+
+returns : tie.Need-returns Inv-loop μ-loop
+returns c = with-fault (contents-none (now (c .before .before .before .args .file)) (omega arith)) (c .refused .ensures)
+
+blank-row-requires : tie.Need-blank-row-requires Inv-loop μ-loop
+blank-row-requires c κs = search needs
+
+loop-holds : tie.Need-loop-holds Inv-loop μ-loop
+unfolding padded
+loop-holds c = (omega arith, omega arith, refl, rw (c .blank-row .ensures) (so-start (now (c .before .before .before .args .file)) (omega arith)))
+
+refused-requires-2 : tie.Need-refused-requires-2 Inv-loop μ-loop
+refused-requires-2 c κs = search needs
+
+returns-2 : tie.Need-returns-2 Inv-loop μ-loop
+returns-2 c = with-fault (so-full (c .before .before .before .loop .inv .3) (c .before .before .loop-test .taken) (c .before .if2 .taken)) (c .refused2 .ensures)
+
+turn-requires : tie.Need-turn-requires Inv-loop μ-loop
+turn-requires c κs = search needs
+
+enum-known-o : tie.Need-enum-known-o Inv-loop μ-loop
+enum-known-o c = search needs
+
+refused-requires-3 : tie.Need-refused-requires-3 Inv-loop μ-loop
+refused-requires-3 c κs = search needs
+
+returns-3 : tie.Need-returns-3 Inv-loop μ-loop
+returns-3 c =
+    let t = c .before .before .before .before in
+    with-fault (turn-bad (t .before .before .before .loop .inv .3) (t .before .before .loop-test .taken) (t .before .if2 .left) (t .turn .ensures) (c .before .before .o .given .1))
+    (c .refused3 .ensures)
+
+enum-told : tie.Need-enum-told Inv-loop μ-loop
+enum-told c = search needs
+
+mul-rows : tie.Need-mul-rows Inv-loop μ-loop
+mul-rows c = search needs
+
+array-set-from-rows : tie.Need-array-set-from-rows Inv-loop μ-loop
+array-set-from-rows c = search needs
+
+add-count : tie.Need-add-count Inv-loop μ-loop
+add-count c = search needs
+
+-- where an accepted record ends
+on : (c : tie.After-r Inv-loop μ-loop)
+    → (c .before .before .before .before .before .before .loop .at < c .before .before .before .turn .result .next)
+    × (c .before .before .before .turn .result .next ≤ length (now (c .before .before .before .before .before .before .before .before .before .before .args .file)))
+on c =
+    let t = c .before .before .before in
+    turn-on (t .before .before .before .loop .inv .3) (t .before .before .loop-test .taken) (t .before .if2 .left) (t .turn .ensures) (c .before .enum-told .given .1)
+
+loop-less : tie.Need-loop-less Inv-loop μ-loop
+loop-less c = omega (arith, on c)
+
+loop-again : tie.Need-loop-again Inv-loop μ-loop
+loop-again c =
+    let t = c .before .before .before in
+    let so = turn-good (t .before .before .before .loop .inv .3) (t .before .before .loop-test .taken) (t .before .if2 .left) (t .turn .ensures) (c .before .enum-told .given .1) in
+    (on c .1, so .few, simp length-set (t .before .before .before .loop .inv .2), so)
+
+returns-4 : tie.Need-returns-4 Inv-loop μ-loop
+returns-4 c =
+    let s = c .before .before .before .before .before in
+    with-numbers (contents (now (s .args .file))) (so-end (c .before .loop .inv .3) (c .loop-test .left))
+
+pub walk-spec : {M : Type 1} → statement M
+walk-spec =
+    tie.close
+    (tie.spec
+    Inv-loop
+    μ-loop
+    refused-requires
+    returns
+    blank-row-requires
+    loop-holds
+    refused-requires-2
+    returns-2
+    turn-requires
+    enum-known-o
+    refused-requires-3
+    returns-3
+    enum-told
+    mul-rows
+    array-set-from-rows
+    add-count
+    loop-less
+    loop-again
+    returns-4)

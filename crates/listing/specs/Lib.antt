@@ -1,0 +1,4 @@
+pub mod File
+pub mod Rows
+pub mod Listing
+pub mod Demand3

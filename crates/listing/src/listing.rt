@@ -1,0 +1,29 @@
+// The listing of a file into a lent buffer.
+ghost use mathlib.Core.Path.{_≡_};
+ghost use Rattle.text.specs.Answer.{listedNumbers};
+ghost use Rattle.listing.specs.File.{contents};
+ghost use Rattle.listing.specs.Listing.{listAnswer, listNumbers, listHeld};
+ghost use Rattle.listing.specs.Demand3.{Written3};
+use crate::walking::walk;
+use record::Outcome;
+use text::Listed;
+use text::put_listing;
+
+// Nothing is written before the last record is checked and the length is known to fit.
+pub fn list(file: &[u8], out: &mut [u8]) -> Listed
+    ensures answer { λ r. ⌜ r ≡ listAnswer (contents (now (file .entry))) (now (out .entry)) ⌝ }
+    ensures buffer { λ _. ⌜ now (out .exit) ≡ listHeld (contents (now (file .entry))) (now (out .entry)) ⌝ }
+    ensures numbers { λ r. ⌜ listedNumbers r ≡ listNumbers (contents (now (file .entry))) (now (out .entry)) ⌝ }
+    ensures demand3 { λ r. ⌜ Written3 (now (file .entry)) (now (out .exit)) r ⌝ }
+{
+    let w = walk(file);
+    let o = w.outcome;
+    match o {
+        Outcome::Refused { rule, at } => Listed::Refused { rule, at },
+        Outcome::Accepted => {
+            let rows = w.rows;
+            let n = w.count;
+            put_listing(out, rows, n)
+        }
+    }
+}

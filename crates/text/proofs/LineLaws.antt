@@ -1,0 +1,31 @@
+-- The lengths of a line, a listing and a refusal.
+use Prim.Native.Nat.{ℕ, _+_}
+use mathlib.Core.Path.{_≡_, ap}
+use mathlib.Core.List.{List}
+use native.Mathlib.Omega.{arith}
+use lib.ListN.{length, length-append}
+use Rattle.site.specs.declared.Rule.{Rule}
+use Rattle.site.specs.Refusal.{ruleNumber}
+use Rattle.text.specs.declared.Row.{Row}
+use Rattle.text.specs.Decimal.{decimal}
+use Rattle.text.specs.Writing.{each}
+use Rattle.judgement.specs.Verdicts.{verdictWord}
+use Rattle.text.specs.Line.{numbersOf, nameText, spaced, column, body, line}
+use Rattle.text.specs.Listing.{headText, header, listing}
+use Rattle.text.specs.Refusal.{refusal, numbered, refusedWord, atWord}
+
+pub length-line : (r : Row) → length (line r) ≡ length (nameText r) + length (each column (numbersOf r)) + length (verdictWord (r .verdict)) + 2
+unfolding line body spaced
+length-line r = simp length-append (omega arith)
+
+pub length-listing : (rs : List Row) → length (listing rs) ≡ 51 + length (each line rs)
+unfolding listing header headText
+length-listing rs = omega arith
+
+pub length-refusal : (n at : ℕ) → length (numbered n at) ≡ 13 + length (decimal n) + length (decimal at)
+unfolding numbered refusedWord atWord
+length-refusal n at = simp length-append (omega arith)
+
+pub refusal-is : (rule : Rule) (at : ℕ) {n : ℕ} → n ≡ ruleNumber rule → numbered n at ≡ refusal rule at
+unfolding refusal
+refusal-is rule at e = ap (λ (k : ℕ). numbered k at) e

@@ -1,0 +1,90 @@
+-- The lines of a listing, and the last word of each.
+use Prim.Native.Nat.{ℕ, zero, suc, _<_}
+use mathlib.Core.Path.{_≡_, refl, ap, _∙_}
+use mathlib.Core.Bool.{true}
+use mathlib.Core.List.{List, [], _∷_, _++_, append-assoc, map}
+use native.Mathlib.Omega.{arith}
+use lib.ListN.{length, getD}
+use Rattle.judgement.specs.declared.Verdict.{Verdict}
+use Rattle.judgement.specs.declared.Verdict.the-variants.{Within, Over}
+use Rattle.text.specs.declared.Row.{Row}
+use Rattle.text.specs.declared.Listed.{Listed}
+use Rattle.text.specs.Decimal.{decimal}
+use Rattle.text.specs.Writing.{each}
+use Rattle.judgement.specs.Verdicts.{verdictWord}
+use Rattle.text.specs.Line.{noRow, numbersOf, nameText, spaced, column, body, line}
+use Rattle.text.specs.Listing.{headText, header, listing}
+use Rattle.text.specs.Answer.{listedNumbers, answer, answerNumbers, held, Enough}
+use Rattle.text.specs.Words.{split, lastWord, lineAt, free}
+use Rattle.text.specs.Marks.{Plain, Marked}
+use Rattle.text.proofs.AnswerLaws.{Answered, written}
+use Rattle.text.proofs.WordLaws.{split-at, split-free, free-cons, free-append, free-decimal, free-each, lastWord-spaced}
+
+free-mark : (v : Verdict) → (free 10 (verdictWord v) ≡ true) × (free 32 (verdictWord v) ≡ true)
+unfolding verdictWord free
+free-mark Within = (refl, refl)
+free-mark (Over g a n) = (refl, refl)
+
+-- a line has one end
+free-spaced : (w : List ℕ) → free 10 w ≡ true → free 10 (spaced w) ≡ true
+unfolding spaced
+free-spaced w h = free-cons 10 32 w (λ e. omega arith) h
+
+free-column : (n : ℕ) → free 10 (column n) ≡ true
+unfolding column
+free-column n = free-spaced (decimal n) (free-decimal 10 n (omega arith))
+
+pub free-body : (r : Row) → free 10 (nameText r) ≡ true → free 10 (body r) ≡ true
+unfolding body
+free-body r h =
+    free-append 10 _ _ (free-append 10 _ _ h (free-each 10 column (numbersOf r) free-column)) (free-spaced _ (free-mark (r .verdict) .0))
+
+-- ---- the lines of a listing
+
+split-lines : (rs : List Row) → Plain rs → split 10 (each line rs) ≡ map body rs ++ ([] ∷ [])
+unfolding each line split
+split-lines [] h = refl
+split-lines (r ∷ rs) h =
+    let one : split 10 (body r) ≡ body r ∷ [] = split-free 10 (body r) (free-body r (h zero (omega arith))) in
+    let ih : split 10 (each line rs) ≡ map body rs ++ ([] ∷ []) = split-lines rs (λ k l. h (suc k) (omega arith)) in
+    ap (split 10) (append-assoc (body r) (10 ∷ []) (each line rs)) ∙ split-at 10 (body r) (each line rs) ∙ rw (one, ih)
+
+listing-head : (rs : List Row) → listing rs ≡ headText ++ 10 ∷ each line rs
+unfolding listing header headText
+listing-head rs = refl
+
+split-head : split 10 headText ≡ headText ∷ []
+unfolding headText free
+split-head = split-free 10 headText refl
+
+-- all the lines: the header, a line for each row, and nothing after the last 0A
+pub listing-lines : (rs : List Row) → Plain rs → split 10 (listing rs) ≡ headText ∷ (map body rs ++ ([] ∷ []))
+listing-lines rs h = ap (split 10) (listing-head rs) ∙ split-at 10 headText (each line rs) ∙ rw (split-head, split-lines rs h)
+
+getD-body : (rs : List Row) (k : ℕ) → k < length rs → getD (map body rs ++ ([] ∷ [])) k [] ≡ body (getD rs k noRow)
+getD-body [] k h = absurd (omega arith)
+getD-body (r ∷ rs) zero h = refl
+getD-body (r ∷ rs) (suc k) h = getD-body rs k (omega arith)
+
+-- line k + 1 is that of row k
+pub line-of : (rs : List Row) (k : ℕ) → Plain rs → k < length rs → lineAt (suc k) (listing rs) ≡ body (getD rs k noRow)
+unfolding lineAt
+line-of rs k h l = ap (λ (t : List (List ℕ)). getD t (suc k) []) (listing-lines rs h) ∙ getD-body rs k l
+
+pub body-mark : (r : Row) → lastWord (body r) ≡ verdictWord (r .verdict)
+unfolding body
+body-mark r = lastWord-spaced (nameText r ++ each column (numbersOf r)) (verdictWord (r .verdict)) (free-mark (r .verdict) .1)
+
+-- the mark of line k + 1 is that of row k
+pub mark-of : (rs : List Row) (k : ℕ) → Plain rs → k < length rs → lastWord (lineAt (suc k) (listing rs)) ≡ verdictWord (getD rs k noRow .verdict)
+mark-of rs k h l = ap lastWord (line-of rs k h l) ∙ body-mark (getD rs k noRow)
+
+-- the same of what a call has written
+pub marked : (rs : List Row) (d e : List ℕ) (r : Listed) → Answered (listing rs) d e r → Marked rs e r
+marked rs d e r a n k b p l = rw (written (listing rs) d e r a n b) (mark-of rs k p l)
+
+-- the clauses of a call that lists
+pub and-marked : (rs : List Row) (d : List ℕ) {e : List ℕ} {r : Listed} → Answered (listing rs) d e r
+    → (r ≡ answer (listing rs) d)
+    × ((e ≡ held (listing rs) d) × ((listedNumbers r ≡ answerNumbers (listing rs) d) × (Enough (listing rs) d r × Marked rs e r)))
+and-marked rs d {e} {r} a = (a .0, (a .1 .0, (a .1 .1 .0, (a .1 .1 .1, marked rs d e r a))))

@@ -1,0 +1,86 @@
+-- `text::line::put_line` meets its contract: each call writes the next part of the line.
+use borrow.Author.Needs.{needs}
+use Prim.Native.Nat.{ℕ, _+_, _≤_}
+use mathlib.Core.Path.{_≡_, ap}
+use mathlib.Core.List.{List}
+use native.Mathlib.Omega.{arith}
+use lib.ListN.{length, length-set}
+use Rattle.text.specs.Writing.{each}
+use Rattle.judgement.specs.Verdicts.{verdictWord}
+use Rattle.text.specs.Line.{spaced, column, body, line}
+use Rattle.text.proofs.WriteLaws.{then, stored}
+use Rattle.text.proofs.LineLaws.{length-line}
+use Rattle.text.proofs.line.put_line.Statement.{statement}
+use Rattle.text.proofs.line.put_line.Tie as tie
+
+-- the function's entry, as it is seen from after the last call that computes, and the room for each part of the line
+abbrev s0 : tie.After-name2 → tie.Start
+s0 c = c .before .before .before .before .before .before
+
+room : (c : tie.After-name2)
+    → s0 c .args .at + c .before .before .before .before .name-len .result + length (each column (c .before .before .before .numbers .result)) + length (verdictWord (s0 c .args .row .verdict)) + 2
+    ≤ length (s0 c .args .out .now)
+room c =
+    let e = ap (λ (l : List ℕ). length (each column l)) (c .before .before .before .numbers .ensures) in
+    omega (arith, length-line (s0 c .args .row))
+
+name-len-requires : tie.Need-name-len-requires
+name-len-requires c κs = search needs
+
+numbers-requires : tie.Need-numbers-requires
+numbers-requires c κs = search needs
+
+array-share-prefix-name : tie.Need-array-share-prefix-name
+array-share-prefix-name c =
+    let e : length (c .before .before .before .before .before .args .row .name) ≡ 8 = search needs in
+    omega arith
+
+slice-aggregate-put-bytes : tie.Need-slice-aggregate-put-bytes
+slice-aggregate-put-bytes c = rw (c .before .before .before .before .name-len .ensures .1) (c .before .before .before .before .name-len .ensures .2)
+
+put-bytes-requires : tie.Need-put-bytes-requires
+put-bytes-requires c κs = rw (c .before .before .before .before .name-len .ensures .1) (omega (arith, room c))
+
+put-numbers-requires : tie.Need-put-numbers-requires
+put-numbers-requires c κs = omega (arith, room (c .before .before .before .before), slice-aggregate-put-bytes (c .before .before .before .before))
+
+put-mark-requires : tie.Need-put-mark-requires
+unfolding spaced
+put-mark-requires c κs = let b = (c .before .before .before .before .before .before .before .before) in omega (arith, room b, slice-aggregate-put-bytes b)
+
+slice-write-out : tie.Need-slice-write-out
+unfolding spaced
+slice-write-out c = let b = (c .before .before .before .before .before .before .before .before .before .before .before) in omega (arith, room b, slice-aggregate-put-bytes b)
+
+add-result : tie.Need-add-result
+unfolding spaced
+add-result c = let b = (c .before .before .before .before .before .before .before .before .before .before .before) in omega (arith, room b, slice-aggregate-put-bytes b, s0 b .good)
+
+same-length : tie.Need-same-length
+same-length c = simp length-set (omega arith)
+
+returns : tie.Need-returns
+unfolding line body
+returns c =
+    let m = c .before .before in
+    let n = m .before .before .before .before in
+    let b = n .before .before .before .before in
+    let w = rw (b .before .before .before .before .before .name-len .ensures .1) at (b .put-bytes .ensures) in
+    let v = rw (b .before .before .before .before .numbers .ensures) at (n .put-numbers .ensures) in
+    then (then (then w v) (m .put-mark .ensures)) (stored (m .put-mark .last .0) (m .put-mark .result) 10)
+
+pub put-line-spec : {M : Type 1} → statement M
+put-line-spec =
+    tie.close
+    (tie.spec
+    name-len-requires
+    numbers-requires
+    array-share-prefix-name
+    slice-aggregate-put-bytes
+    put-bytes-requires
+    put-numbers-requires
+    put-mark-requires
+    slice-write-out
+    add-result
+    same-length
+    returns)

@@ -1,0 +1,97 @@
+-- `text::refusal::put_refusal` meets its contract.
+use native.Mathlib.Omega.{arith}
+use denote.Ref.{now}
+use lib.ListN.{length-set}
+use Rattle.text.specs.Refusal.{numbered, refusedWord, atWord}
+use Rattle.text.proofs.WriteLaws.{then, stored}
+use Rattle.text.proofs.LineLaws.{length-refusal, refusal-is}
+use Rattle.text.proofs.AnswerLaws.{refused, printed}
+use borrow.Author.Needs.{needs}
+use Rattle.text.proofs.refusal.put_refusal.Statement.{statement}
+use Rattle.text.proofs.refusal.put_refusal.Tie as tie
+
+rule-number-requires : tie.Need-rule-number-requires
+rule-number-requires c κs = search needs
+
+width-requires : tie.Need-width-requires
+width-requires c κs = search needs
+
+width-requires-2 : tie.Need-width-requires-2
+width-requires-2 c κs = search needs
+
+add-need : tie.Need-add-need
+add-need c = search needs
+
+add-need-2 : tie.Need-add-need-2
+add-need-2 c = search needs
+
+returns : tie.Need-returns
+returns c =
+    let n = c .before .before .before in
+    let s = n .before .before in
+    let l = length-refusal (n .rule-number .result) (s .args .at) in
+    rw (← refusal-is (s .args .rule) (s .args .at) (n .rule-number .ensures)) (refused (numbered (n .rule-number .result) (s .args .at)) (now (s .args .out)) (omega arith) (omega arith))
+
+slice-aggregate-put-bytes : tie.Need-slice-aggregate-put-bytes
+slice-aggregate-put-bytes c = search needs
+
+put-bytes-requires : tie.Need-put-bytes-requires
+put-bytes-requires c κs = search needs
+
+put-decimal-requires : tie.Need-put-decimal-requires
+put-decimal-requires c κs = search needs
+
+slice-aggregate-put-bytes-2 : tie.Need-slice-aggregate-put-bytes-2
+slice-aggregate-put-bytes-2 c = search needs
+
+put-bytes-requires-2 : tie.Need-put-bytes-requires-2
+put-bytes-requires-2 c κs = search needs
+
+put-decimal-requires-2 : tie.Need-put-decimal-requires-2
+put-decimal-requires-2 c κs = search needs
+
+slice-write-out : tie.Need-slice-write-out
+slice-write-out c = search needs
+
+add-t16 : tie.Need-add-t16
+add-t16 c = search needs
+
+same-length : tie.Need-same-length
+same-length c = simp length-set (omega arith)
+
+returns-2 : tie.Need-returns-2
+unfolding numbered refusedWord atWord
+returns-2 c =
+    let d4 = c .before .before in
+    let b3 = d4 .before .before .before .before in
+    let d2 = b3 .before .before .before .before .before in
+    let b1 = d2 .before .before .before .before in
+    let n = b1 .before .before .before .before .before .before in
+    let s = n .before .before in
+    let text = numbered (n .rule-number .result) (s .args .at) in
+    rw (← refusal-is (s .args .rule) (s .args .at) (n .rule-number .ensures))
+    (printed text
+    (then (then (then (then (b1 .put-bytes .ensures) (d2 .put-decimal .ensures)) (b3 .put-bytes2 .ensures)) (d4 .put-decimal2 .ensures))
+    (stored (d4 .put-decimal2 .last .0) (d4 .put-decimal2 .result) 10))
+    (omega (arith, b1 .before .before .before, length-refusal (n .rule-number .result) (s .args .at))))
+
+pub put-refusal-spec : {M : Type 1} → statement M
+put-refusal-spec =
+    tie.close
+    (tie.spec
+    rule-number-requires
+    width-requires
+    width-requires-2
+    add-need
+    add-need-2
+    returns
+    slice-aggregate-put-bytes
+    put-bytes-requires
+    put-decimal-requires
+    slice-aggregate-put-bytes-2
+    put-bytes-requires-2
+    put-decimal-requires-2
+    slice-write-out
+    add-t16
+    same-length
+    returns-2)

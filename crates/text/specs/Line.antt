@@ -1,0 +1,50 @@
+-- A row's line: name, four loads, region, two exceedances, mark, with single spaces.
+use Prim.Native.Nat.{ℕ, _^_, _≤_, _<_}
+use mathlib.Core.List.{List, [], _∷_, _++_}
+use lib.ListN.{length, getD, take}
+use Rattle.loads.specs.declared.Loads.{Loads}
+use Rattle.judgement.specs.declared.Verdict.the-variants.{Within}
+use Rattle.judgement.specs.Verdicts.{verdictNumbers, verdictWord}
+use Rattle.text.specs.declared.Row.{Row}
+use Rattle.text.specs.Decimal.{decimal}
+use Rattle.text.specs.Writing.{each}
+
+-- what a list of rows has past its end
+abbrev pub noRow : Row
+noRow =
+    record {
+      name = [];
+      «name_len» = 0;
+      loads = record { «max_s» = 0; «min_n» = 0; «max_n» = 0; «nut_n» = 0 };
+      verdict = Within;
+    }
+
+-- CLmaxS, CLminN, CLmaxN, CLnutN
+unfoldable pub loadNumbers : Loads → List ℕ → List ℕ
+loadNumbers l ns = l .«max_s» ∷ l .«min_n» ∷ l .«max_n» ∷ l .«nut_n» ∷ ns
+
+-- the seven numbers of a line
+unfoldable pub numbersOf : Row → List ℕ
+numbersOf r = loadNumbers (r .loads) (verdictNumbers (r .verdict))
+
+unfoldable pub nameText : Row → List ℕ
+nameText r = take (r .«name_len») (r .name)
+
+-- a word after the first of its line
+unfoldable pub spaced : List ℕ → List ℕ
+spaced w = 32 ∷ w
+
+unfoldable pub column : ℕ → List ℕ
+column n = spaced (decimal n)
+
+-- a row's line without its end
+unfoldable pub body : Row → List ℕ
+body r = nameText r ++ each column (numbersOf r) ++ spaced (verdictWord (r .verdict))
+
+unfoldable pub line : Row → List ℕ
+line r = body r ++ (10 ∷ [])
+
+-- a name of at most 8 bytes, and numbers of 64 bits
+pub record Narrow (r : Row) : Type 0 where
+  pub name : length (nameText r) ≤ 8
+  pub numbers : (i : ℕ) → getD (numbersOf r) i 0 < 2 ^ 64

@@ -1,0 +1,27 @@
+// The text of a listing, written into a lent buffer.
+mod columns;
+mod decimal;
+mod line;
+mod listing;
+mod refusal;
+mod writing;
+
+use judgement::Verdict;
+pub use listing::put_listing;
+use loads::Loads;
+pub use refusal::put_refusal;
+use site::Rule;
+
+// What a line of the listing shows. Name bytes from `name_len` on are not shown.
+pub struct Row {
+    pub name: [u8; 8],
+    pub name_len: u8,
+    pub loads: Loads,
+    pub verdict: Verdict,
+}
+
+// How many bytes were written, or the rule that was broken and where.
+pub enum Listed {
+    Bytes(usize),
+    Refused { rule: Rule, at: usize },
+}
