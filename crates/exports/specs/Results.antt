@@ -12,6 +12,8 @@ use Rattle.site.specs.declared.Checked.the-variants.{Passed, Broken}
 use Rattle.record.specs.declared.Outcome.{Outcome}
 use Rattle.record.specs.declared.Outcome.the-variants.{Accepted, Refused}
 use Rattle.record.specs.Writer.{bufferOf}
+use Rattle.text.specs.declared.Listed.{Listed}
+use Rattle.text.specs.declared.Listed.the-variants.{Bytes, Refused as NotListed}
 
 -- rule number × 2³² + offset
 unfoldable pub refusalCode : Rule → ℕ → ℕ
@@ -34,3 +36,8 @@ rewriteCode Accepted b old = codeIf (roomRule (length b) (length old)) (length b
 unfoldable pub rewriteHeld : Outcome → (bytes old : List ℕ) → List ℕ
 rewriteHeld (Refused r at) b old = old
 rewriteHeld Accepted b old = bufferOf (roomRule (length b) (length old)) b old
+
+-- a listing: the count of bytes, or the refusal
+unfoldable pub listedCode : Listed → ℕ
+listedCode (Bytes n) = n
+listedCode (NotListed r at) = refusalCode r at

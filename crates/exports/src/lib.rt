@@ -1,9 +1,12 @@
 // The C interface: `docs/forest.h` describes it for its users.
 mod codes;
+mod file_calls;
 mod layout;
 mod record_calls;
 mod value_calls;
 
+pub use file_calls::forest_list;
+pub use file_calls::forest_report;
 pub use record_calls::forest_rewrite;
 pub use value_calls::forest_check;
 pub use value_calls::forest_judge;

@@ -1,0 +1,27 @@
+use mathlib.Core.Path.{ap, _∙_}
+use Rattle.exports.specs.Results.{listedCode}
+use borrow.Author.Needs.{needs}
+use Rattle.exports.proofs.file_calls.forest_list.Statement.{statement}
+use Rattle.exports.proofs.file_calls.forest_list.Tie as tie
+use Rattle.exports.proofs.file_calls.forest_list.Reads as reads
+use Rattle.exports.proofs.file_calls.forest_list.Lts as lts
+use Rattle.exports.proofs.file_calls.listed_code.Reads as listed-code-reads
+use Rattle.listing.proofs.list.Reads as list-reads
+
+list-requires : tie.Need-list-requires
+list-requires c κs = search needs
+
+listed-code-requires : tie.Need-listed-code-requires
+listed-code-requires c κs = search needs
+
+same-length : tie.Need-same-length
+same-length c = search needs
+
+returns : tie.Need-returns
+returns c =
+    let l = c .before .before .before .list in
+    let e = l .ensures in
+    (c .listed-code .ensures ∙ ap listedCode (e .0), (e .1 .0, rw (e .0) at (e .1 .1 .1)))
+
+pub forest-list-spec : {M : Type 1} → statement M
+forest-list-spec = tie.close (tie.spec list-requires listed-code-requires same-length returns)

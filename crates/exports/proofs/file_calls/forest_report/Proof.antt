@@ -1,0 +1,26 @@
+use mathlib.Core.Path.{ap, _∙_}
+use Rattle.exports.specs.Results.{listedCode}
+use borrow.Author.Needs.{needs}
+use Rattle.exports.proofs.file_calls.forest_report.Statement.{statement}
+use Rattle.exports.proofs.file_calls.forest_report.Tie as tie
+use Rattle.exports.proofs.file_calls.forest_report.Reads as reads
+use Rattle.exports.proofs.file_calls.forest_report.Lts as lts
+use Rattle.exports.proofs.file_calls.listed_code.Reads as listed-code-reads
+use Rattle.listing.proofs.report.Reads as report-reads
+
+report-requires : tie.Need-report-requires
+report-requires c κs = search needs
+
+listed-code-requires : tie.Need-listed-code-requires
+listed-code-requires c κs = search needs
+
+same-length : tie.Need-same-length
+same-length c = search needs
+
+returns : tie.Need-returns
+returns c =
+    let e = c .before .before .before .report .ensures in
+    (c .listed-code .ensures ∙ ap listedCode (e .0), e .1 .0)
+
+pub forest-report-spec : {M : Type 1} → statement M
+forest-report-spec = tie.close (tie.spec report-requires listed-code-requires same-length returns)

@@ -1,0 +1,39 @@
+// The listing and the report of a file.
+ghost use mathlib.Core.Path.{_≡_};
+ghost use Rattle.text.specs.Answer.{answer, held};
+ghost use Rattle.listing.specs.File.{contents};
+ghost use Rattle.listing.specs.Listing.{listAnswer, listHeld, reportOf};
+ghost use Rattle.listing.specs.Demand3.{Written3};
+ghost use Rattle.exports.specs.Results.{listedCode};
+use crate::codes::refused_at;
+use listing::list;
+use listing::report;
+use text::Listed;
+
+fn listed_code(listed: Listed) -> u64
+    ensures { λ r. ⌜ r ≡ listedCode listed ⌝ }
+{
+    match listed {
+        Listed::Bytes(n) => n as u64,
+        Listed::Refused { rule, at } => refused_at(rule, at),
+    }
+}
+
+#[no_mangle]
+pub extern "C" fn forest_list(file: &[u8], out: &mut [u8]) -> u64
+    ensures answer { λ r. ⌜ r ≡ listedCode (listAnswer (contents (now (file .entry))) (now (out .entry))) ⌝ }
+    ensures buffer { λ _. ⌜ now (out .exit) ≡ listHeld (contents (now (file .entry))) (now (out .entry)) ⌝ }
+    ensures demand3 { λ _. ⌜ Written3 (now (file .entry)) (now (out .exit)) (listAnswer (contents (now (file .entry))) (now (out .entry))) ⌝ }
+{
+    let listed = list(file, out);
+    listed_code(listed)
+}
+
+#[no_mangle]
+pub extern "C" fn forest_report(file: &[u8], out: &mut [u8]) -> u64
+    ensures answer { λ r. ⌜ r ≡ listedCode (answer (reportOf (now (file .entry))) (now (out .entry))) ⌝ }
+    ensures buffer { λ _. ⌜ now (out .exit) ≡ held (reportOf (now (file .entry))) (now (out .entry)) ⌝ }
+{
+    let listed = report(file, out);
+    listed_code(listed)
+}
