@@ -1,0 +1,41 @@
+use native.Mathlib.Omega.{arith}
+use lib.ListN.{length-take}
+use borrow.Author.Needs.{needs}
+use Rattle.cases.proofs.print_listed.Statement.{statement}
+use Rattle.cases.proofs.print_listed.Tie as tie
+use Rattle.cases.proofs.print_listed.Reads as reads
+use Rattle.cases.proofs.print_listed.Lts as lts
+use Rattle.io.proofs.write_all.Reads as write-all-reads
+
+enum-known-listed : tie.Need-enum-known-listed
+enum-known-listed c = search needs
+
+slice-aggregate-write-all : tie.Need-slice-aggregate-write-all
+slice-aggregate-write-all c = simp length-take (omega arith)
+
+write-all-requires : tie.Need-write-all-requires
+write-all-requires c κs = search needs
+
+enum-told : tie.Need-enum-told
+enum-told c = search needs
+
+returns : tie.Need-returns
+returns c = search needs
+
+returns-2 : tie.Need-returns-2
+returns-2 c = search needs
+
+returns-3 : tie.Need-returns-3
+returns-3 c = search needs
+
+pub print-listed-spec : {M : Type 1} → statement M
+print-listed-spec =
+    tie.close
+    (tie.spec
+    enum-known-listed
+    slice-aggregate-write-all
+    write-all-requires
+    enum-told
+    returns
+    returns-2
+    returns-3)

@@ -1,0 +1,79 @@
+use native.Mathlib.Omega.{arith}
+use lib.ListN.{length-take}
+use borrow.Author.Needs.{needs}
+use Rattle.cases.proofs.print_vector.Statement.{statement}
+use Rattle.cases.proofs.print_vector.Tie as tie
+use Rattle.cases.proofs.print_vector.Reads as reads
+use Rattle.cases.proofs.print_vector.Lts as lts
+use Rattle.cases.proofs.print_listed.Reads as print-listed-reads
+use Rattle.cases.proofs.print_rewritten.Reads as print-rewritten-reads
+use Rattle.listing.proofs.report.Reads as report-reads
+
+report-requires : tie.Need-report-requires
+report-requires c κs = search needs
+
+print-listed-requires : tie.Need-print-listed-requires
+print-listed-requires c κs = search needs
+
+print-rewritten-requires : tie.Need-print-rewritten-requires
+print-rewritten-requires c κs = search needs
+
+sub-print-rewritten : tie.Need-sub-print-rewritten
+sub-print-rewritten c = search needs
+
+slice-relend-prefix-print-rewritten : tie.Need-slice-relend-prefix-print-rewritten
+slice-relend-prefix-print-rewritten c = search needs
+
+slice-aggregate-print-rewritten : tie.Need-slice-aggregate-print-rewritten
+slice-aggregate-print-rewritten c = simp length-take (omega arith)
+
+print-rewritten-requires-2 : tie.Need-print-rewritten-requires-2
+print-rewritten-requires-2 c κs = search needs
+
+same-length : tie.Need-same-length
+same-length c = search needs
+
+returns : tie.Need-returns
+returns c = search needs
+
+same-length-2 : tie.Need-same-length-2
+same-length-2 c = search needs
+
+returns-2 : tie.Need-returns-2
+returns-2 c = search needs
+
+same-length-3 : tie.Need-same-length-3
+same-length-3 c = search needs
+
+returns-3 : tie.Need-returns-3
+returns-3 c = search needs
+
+returns-4 : tie.Need-returns-4
+returns-4 c = search needs
+
+returns-5 : tie.Need-returns-5
+returns-5 c = search needs
+
+returns-6 : tie.Need-returns-6
+returns-6 c = search needs
+
+pub print-vector-spec : {M : Type 1} → statement M
+print-vector-spec =
+    tie.close
+    (tie.spec
+    report-requires
+    print-listed-requires
+    print-rewritten-requires
+    sub-print-rewritten
+    slice-relend-prefix-print-rewritten
+    slice-aggregate-print-rewritten
+    print-rewritten-requires-2
+    same-length
+    returns
+    same-length-2
+    returns-2
+    same-length-3
+    returns-3
+    returns-4
+    returns-5
+    returns-6)

@@ -1,0 +1,180 @@
+// Runs the vectors of standard input through the calls and prints what each gives.
+// A line is a comment, from `#` on, which is printed as it is, or a letter and then bytes in hexadecimal with spaces between them as one likes:
+//   F  a file: its report
+//   R  a single record: read, written again into a buffer that is long enough, and shown in hexadecimal
+//   S  the same with a buffer one byte shorter than the record
+ghost use Prim.Native.Nat.{_≤_};
+ghost use lib.ListN.{length};
+ghost use Rattle.io.specs.Counts.{Counts};
+use listing::report;
+use record::Outcome;
+use record::Written;
+use record::read_record;
+use record::write_record;
+use site::Rule;
+use text::Listed;
+use text::put_refusal;
+
+// The value of a hexadecimal digit, or 16.
+fn digit_value(b: u8) -> u8
+    ensures { λ r. ⌜ r ≤ 16 ⌝ }
+{
+    if b < 48 {
+        return 16;
+    }
+    if b < 58 {
+        return b - 48;
+    }
+    if b < 65 {
+        return 16;
+    }
+    if b < 71 {
+        return b - 55;
+    }
+    16
+}
+
+// The last digit of x.
+fn digit(x: u8) -> u8 {
+    let d = x % 16;
+    if d < 10 {
+        return 48 + d;
+    }
+    55 + d
+}
+
+// The bytes of a line in hexadecimal, as many as out holds; other characters stand between bytes.
+fn decode(line: &[u8], out: &mut [u8]) -> usize
+    ensures { λ r. ⌜ Counts r (now (out .exit)) ⌝ }
+{
+    let mut n = 0;
+    let mut high: u8 = 16;
+    let mut i = 0;
+    while i < line.len() {
+        let x = digit_value(line[i]);
+        i += 1;
+        if x < 16 {
+            if high < 16 {
+                if n < out.len() {
+                    out[n] = 16 * high + x;
+                    n += 1;
+                }
+                high = 16;
+            } else {
+                high = x;
+            }
+        }
+    }
+    n
+}
+
+fn print_hex(bytes: &[u8]) {
+    let mut i = 0;
+    while i < bytes.len() {
+        let b = bytes[i];
+        let two = [digit(b / 16), digit(b)];
+        io::write_all(1, &two);
+        i += 1;
+    }
+    io::write_all(1, b"\n");
+}
+
+fn print_listed(out: &[u8], listed: Listed) {
+    match listed {
+        Listed::Bytes(n) => {
+            if n <= out.len() {
+                io::write_all(1, &out[..n]);
+            }
+        }
+        Listed::Refused { rule: _, at: _ } => {}
+    }
+}
+
+fn print_refusal(rule: Rule, at: usize) {
+    let mut out = [0u8; 64];
+    let listed = put_refusal(&mut out, rule, at);
+    print_listed(&out, listed);
+}
+
+// A record read, and written again into a lent buffer.
+fn print_rewritten(bytes: &[u8], out: &mut [u8]) {
+    let read = read_record(bytes);
+    let site = read.site;
+    let outcome = read.outcome;
+    match outcome {
+        Outcome::Refused { rule, at } => print_refusal(rule, at),
+        Outcome::Accepted => match write_record(site, out) {
+            Written::Refused(rule) => print_refusal(rule, 0),
+            Written::Wrote(n) => {
+                if n <= out.len() {
+                    print_hex(&out[..n]);
+                }
+            }
+        },
+    }
+}
+
+fn print_vector(kind: u8, bytes: &[u8], out: &mut [u8]) {
+    match kind {
+        70 => {
+            let listed = report(bytes, out);
+            print_listed(out, listed);
+        }
+        82 => print_rewritten(bytes, out),
+        83 => {
+            let n = bytes.len();
+            if 0 < n {
+                if n <= out.len() {
+                    print_rewritten(bytes, &mut out[..n - 1]);
+                }
+            }
+        }
+        _ => {}
+    }
+}
+
+fn print_line(line: &[u8]) {
+    if line.len() == 0 {
+        return;
+    }
+    let kind = line[0];
+    if kind == 35 {
+        io::write_all(1, line);
+        io::write_all(1, b"\n");
+        return;
+    }
+    let mut bytes = [0u8; 2048];
+    let mut out = [0u8; 8192];
+    let n = decode(&line[1..], &mut bytes);
+    print_vector(kind, &bytes[..n], &mut out);
+}
+
+// Where the line that starts at `at` ends.
+fn line_end(text: &[u8], at: usize) -> usize
+    requires { ⌜ at ≤ length (now text) ⌝ }
+    ensures { λ r. ⌜ (at ≤ r) × (r ≤ length (now (text .entry))) ⌝ }
+{
+    let mut i = at;
+    while i < text.len() {
+        if text[i] == 10 {
+            return i;
+        }
+        i += 1;
+    }
+    i
+}
+
+fn print_lines(text: &[u8]) {
+    let mut at = 0;
+    while at < text.len() {
+        let end = line_end(text, at);
+        print_line(&text[at..end]);
+        at = end + 1;
+    }
+}
+
+fn main() {
+    let mut text = [0u8; 32768];
+    let n = io::read_full(0, &mut text);
+    print_lines(&text[..n]);
+}
