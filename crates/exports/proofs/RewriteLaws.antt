@@ -11,7 +11,6 @@ use Rattle.site.specs.declared.Rule.{Rule}
 use Rattle.site.specs.declared.Checked.{Checked}
 use Rattle.site.specs.declared.Checked.the-variants.{Passed, Broken}
 use Rattle.record.specs.declared.Read.{Read}
-use Rattle.record.specs.declared.Outcome.{Outcome}
 use Rattle.record.specs.declared.Outcome.the-variants.{Accepted, Refused}
 use Rattle.record.specs.declared.Written.{Written}
 use Rattle.record.specs.declared.Written.the-variants.{Wrote, Refused as NotWritten}

@@ -1,11 +1,11 @@
 -- Demand 3: a pair is judged within exactly where both balances close for some whole u, i and allowed h.
 use Prim.Native.Nat.{ℕ, _+_, _*_, _-_, _/_, _≤_, _<_, min}
 use mathlib.Core.Bool.{Bool, true, false, _&&_}
-use mathlib.Core.Path.{_≡_, refl, sym, _∙_, ap}
+use mathlib.Core.Path.{_≡_, refl, sym, _∙_}
 use mathlib.Core.Logic.{_↔_}
 use native.Mathlib.Omega.{arith}
 use native.Mathlib.Nat.{mul-comm, mul-le-mul-left, le-trans, le-div-iff-mul-le}
-use borrow.Author.Tests.{eq-eqb, eqb-true}
+use borrow.Author.Tests.{eqb-true}
 use lib.Dec.{eqb}
 use Rattle.site.specs.Choice.{pick}
 use Rattle.site.specs.Bounds.{Bounds}
@@ -13,15 +13,14 @@ use Rattle.site.specs.declared.Site.{Site}
 use Rattle.loads.specs.Uptake.{nitrogenUptake}
 use Rattle.loads.specs.Hydrogen.{hydrogen, aluminium, greatestLevel}
 use Rattle.loads.specs.Nitrogen.{retained, leaching}
-use Rattle.loads.specs.CriticalLoads.{maxS, minN, nutN}
+use Rattle.loads.specs.CriticalLoads.{maxS, minN}
 use Rattle.site.proofs.Tests.{and-l, and-r}
 use Rattle.loads.proofs.LevelLaws.{hydrogenOf-mono, alOf-mono}
 use Rattle.loads.proofs.TermLaws.{maxS-is, minN-is, nutN-is, greatest-ceiling, greatest-limit, greatest-of-all, term-bounds}
 use Rattle.judgement.specs.declared.Region.{Region}
 use Rattle.judgement.specs.declared.Region.the-variants.{Unexceeded, NoSulphur, Slope, Corner, SulphurOnly}
-use Rattle.judgement.specs.declared.Verdict.{Verdict}
 use Rattle.judgement.specs.declared.Verdict.the-variants.{Within, Over}
-use Rattle.judgement.specs.Regions.{regionNumber, regionOf}
+use Rattle.judgement.specs.Regions.{regionNumber}
 use Rattle.judgement.specs.Verdicts.{region, acidExceedance, nutrientExceedance, verdictOf, verdict}
 use Rattle.judgement.specs.Balance.{Allowed, Closes}
 use Rattle.judgement.proofs.RegionLaws.{zero-closes, closes-zero}

@@ -6,7 +6,7 @@ use native.Mathlib.Omega.{arith}
 use native.Mathlib.Nat.{mul-le-mul-left, mul-le-mul-right, le-of-mul-le-mul-left, div-lt-iff-lt-mul, le-refl}
 use Rattle.loads.specs.Rounding.{up}
 use Rattle.site.proofs.Tests.{le-or-lt}
-use Rattle.judgement.specs.Regions.{D, excess, regionOf, acidIn, acidOf}
+use Rattle.judgement.specs.Regions.{D, excess, acidIn, acidOf}
 use Rattle.judgement.proofs.RegionLaws.{by-region}
 use Rattle.judgement.proofs.NotCutOff.{slope-one, slope-three}
 

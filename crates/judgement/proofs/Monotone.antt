@@ -7,10 +7,9 @@ use Rattle.site.specs.Bounds.{Bounds}
 use Rattle.site.specs.declared.Site.{Site}
 use Rattle.loads.specs.OneSite.{OneSite}
 use Rattle.loads.specs.Nitrogen.{retained}
-use Rattle.loads.specs.CriticalLoads.{maxS, minN, nutN}
+use Rattle.loads.specs.CriticalLoads.{maxS, minN}
 use Rattle.loads.proofs.OneSiteLaws.{maxS-same, minN-same, nutN-same, retained-same}
 use Rattle.loads.proofs.TermLaws.{term-bounds}
-use Rattle.judgement.specs.declared.Verdict.{Verdict}
 use Rattle.judgement.specs.declared.Verdict.the-variants.{Within}
 use Rattle.judgement.specs.Verdicts.{region, acidExceedance, nutrientExceedance, verdict}
 use Rattle.judgement.proofs.RegionLaws.{zero-closes, closes-zero}

@@ -1,20 +1,18 @@
 -- The acid regions on plain numbers.
 use Prim.Native.Nat.{ℕ, _+_, _*_, _-_, _≤_, _<_}
-use mathlib.Core.Bool.{Bool, false, _&&_, _||_}
+use mathlib.Core.Bool.{false, _&&_, _||_}
 use mathlib.Core.Path.{_≡_, refl, ap}
 use mathlib.Core.Logic.{⊎-elim}
 use native.Mathlib.Omega.{arith}
-use native.Mathlib.Nat.{one-mul, mul-pos, le-div-iff-mul-le, mul-zero, mul-le-mul, mul-le-mul-left, mul-add, mul-assoc, mul-comm}
+use native.Mathlib.Nat.{mul-zero, mul-le-mul}
 use borrow.Author.Tests.{le-leb, lt-leb, lt-ltb, le-ltb}
-use lib.Dec.{leb, ltb}
-use Rattle.site.specs.Choice.{pick}
-use Rattle.loads.specs.Rounding.{up}
+use lib.Dec.{leb}
 use Rattle.site.proofs.Tests.{le-or-lt}
 use Rattle.loads.proofs.Tables.{lt-or-le}
 use Rattle.judgement.specs.declared.Region.{Region}
 use Rattle.judgement.specs.declared.Region.the-variants.{Unexceeded, NoSulphur, Slope, Corner, SulphurOnly}
 use Rattle.judgement.specs.Conditions.{Pair}
-use Rattle.judgement.specs.Regions.{D, excess, regionNumber, regionOf, acidIn}
+use Rattle.judgement.specs.Regions.{D, excess, regionNumber, regionOf}
 
 module _ (S N C m e : ℕ) where
   pub none-left : N ≤ m → e * (N - m) ≡ 0

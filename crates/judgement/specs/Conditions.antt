@@ -1,5 +1,5 @@
 -- What the private functions ask of their numbers.
-use Prim.Native.Nat.{ℕ, _≤_, _<_}
+use Prim.Native.Nat.{ℕ, _≤_}
 use mathlib.Core.Path.{_≡_}
 use Rattle.judgement.specs.declared.Region.{Region}
 use Rattle.judgement.specs.Regions.{regionOf}

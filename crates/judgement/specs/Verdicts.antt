@@ -9,7 +9,6 @@ use Rattle.site.specs.declared.Checked.{Checked}
 use Rattle.site.specs.declared.Checked.the-variants.{Passed, Broken}
 use Rattle.site.specs.Refusal.{ruleNumber}
 use Rattle.site.specs.Check.{siteRule}
-use Rattle.loads.specs.declared.Loads.{Loads}
 use Rattle.loads.specs.Nitrogen.{retained}
 use Rattle.loads.specs.CriticalLoads.{maxS, minN, nutN, loadsOf}
 use Rattle.judgement.specs.declared.Region.{Region}

@@ -1,6 +1,5 @@
 -- Laws of products and quotients.
 use Prim.Native.Nat.{ℕ, _*_, _/_, _≤_, _<_}
-use mathlib.Core.Path.{_≡_}
 use native.Mathlib.Nat.{mul-comm, mul-le-mul, mul-le-mul-left, mul-le-mul-right, le-trans, le-div-iff-mul-le, div-mul-le-self, div-le-of-le-mul}
 
 -- a product of bounded factors; the bounds are written, so that `omega` can show a factor's bound

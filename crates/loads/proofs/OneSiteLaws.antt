@@ -1,7 +1,5 @@
 -- The terms of two sites that are one site: they read neither name nor pair.
 use mathlib.Core.Path.{_≡_}
-use mathlib.Core.List.{List}
-use lib.ListN.{take}
 use Prim.Native.Nat.{ℕ}
 use Rattle.site.specs.declared.Site.{Site}
 use Rattle.loads.specs.OneSite.{OneSite}

@@ -7,7 +7,7 @@ use mathlib.Core.List.{[], _∷_}
 use native.Mathlib.Omega.{arith}
 use borrow.Author.Tests.{leb-true, ne-eqb}
 use lib.Dec.{leb, eqb}
-use lib.ListN.{getD, List·getD-eq-default}
+use lib.ListN.{List·getD-eq-default}
 use Rattle.site.proofs.Tests.{le-or-lt, and-l, and-r}
 use Rattle.loads.specs.Weathering.{classOf}
 use Rattle.loads.specs.Nitrogen.{denitrified, retainedOf}

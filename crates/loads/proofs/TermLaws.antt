@@ -12,7 +12,7 @@ use Rattle.loads.specs.Rounding.{up}
 use Rattle.loads.specs.Texture.{textureOf}
 use Rattle.loads.specs.Weathering.{classOf, weatheringOf, weathering, availableWeathering}
 use Rattle.loads.specs.Uptake.{baseIn, nitrogenIn, standSum, nitrogenUptake, baseDemand, baseUptakeOf, baseUptake}
-use Rattle.loads.specs.Hydrogen.{hydrogenOf, alOf, levelOf, hydrogen, aluminium, aluminiumLimit, greatestLevel, criticalLeaching}
+use Rattle.loads.specs.Hydrogen.{hydrogenOf, hydrogen, aluminium, aluminiumLimit, greatestLevel, criticalLeaching}
 use Rattle.loads.specs.Nitrogen.{retained, retainedOf, leaching}
 use Rattle.loads.specs.CriticalLoads.{maxS, minN, maxN, nutN}
 use Rattle.loads.specs.Conditions.{acidLoad}

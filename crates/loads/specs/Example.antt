@@ -1,10 +1,7 @@
 -- Site A1 of document 01, and the values it gives for it.
-use Prim.Native.Nat.{ℕ}
 use mathlib.Core.Path.{_≡_, refl}
-use mathlib.Core.List.{List, [], _∷_, map}
-use lib.ListN.{replicate}
+use mathlib.Core.List.{[], _∷_}
 use Rattle.site.specs.declared.Site.{Site}
-use Rattle.site.specs.declared.Entry.{Entry}
 use Rattle.site.specs.declared.Checked.the-variants.{Passed}
 use Rattle.site.specs.Bounds.{noEntry}
 use Rattle.site.specs.Refusal.{andThen}

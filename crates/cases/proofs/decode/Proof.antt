@@ -5,9 +5,6 @@ use lib.ListN.{length, length-set, length-take}
 use borrow.Author.Needs.{needs}
 use Rattle.cases.proofs.decode.Statement.{statement}
 use Rattle.cases.proofs.decode.Tie as tie
-use Rattle.cases.proofs.decode.Reads as reads
-use Rattle.cases.proofs.decode.Lts as lts
-use Rattle.cases.proofs.digit_value.Reads as digit-value-reads
 
 abbrev Inv-loop : tie.InvT-loop
 Inv-loop line out₀ n₀ high₀ i₀ out n high i = (i ≤ length line) × (n ≤ length out) × (length out ≡ length out₀)

@@ -1,11 +1,8 @@
 use Prim.Native.Nat.{_-_, _≤_}
-use native.Mathlib.Omega.{arith}
 use lib.ListN.{length}
 use borrow.Author.Needs.{needs}
 use Rattle.cases.proofs.line_end.Statement.{statement}
 use Rattle.cases.proofs.line_end.Tie as tie
-use Rattle.cases.proofs.line_end.Reads as reads
-use Rattle.cases.proofs.line_end.Lts as lts
 
 abbrev Inv-loop : tie.InvT-loop
 Inv-loop text at i₀ i = (at ≤ i) × (i ≤ length text)

@@ -1,13 +1,8 @@
 use Prim.Native.Nat.{_-_, _≤_}
-use native.Mathlib.Omega.{arith}
 use lib.ListN.{length}
 use borrow.Author.Needs.{needs}
 use Rattle.cases.proofs.print_hex.Statement.{statement}
 use Rattle.cases.proofs.print_hex.Tie as tie
-use Rattle.cases.proofs.print_hex.Reads as reads
-use Rattle.cases.proofs.print_hex.Lts as lts
-use Rattle.cases.proofs.digit.Reads as digit-reads
-use Rattle.io.proofs.write_all.Reads as write-all-reads
 
 abbrev Inv-loop : tie.InvT-loop
 Inv-loop bytes i₀ t5 i = i ≤ length bytes

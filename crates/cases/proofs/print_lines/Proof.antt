@@ -1,13 +1,8 @@
 use Prim.Native.Nat.{_+_, _-_, _≤_}
-use native.Mathlib.Omega.{arith}
 use lib.ListN.{length}
 use borrow.Author.Needs.{needs}
 use Rattle.cases.proofs.print_lines.Statement.{statement}
 use Rattle.cases.proofs.print_lines.Tie as tie
-use Rattle.cases.proofs.print_lines.Reads as reads
-use Rattle.cases.proofs.print_lines.Lts as lts
-use Rattle.cases.proofs.line_end.Reads as line-end-reads
-use Rattle.cases.proofs.print_line.Reads as print-line-reads
 
 abbrev Inv-loop : tie.InvT-loop
 Inv-loop text at₀ at = at ≤ length text + 1

@@ -3,9 +3,6 @@ use lib.ListN.{length-take}
 use borrow.Author.Needs.{needs}
 use Rattle.cases.proofs.print_listed.Statement.{statement}
 use Rattle.cases.proofs.print_listed.Tie as tie
-use Rattle.cases.proofs.print_listed.Reads as reads
-use Rattle.cases.proofs.print_listed.Lts as lts
-use Rattle.io.proofs.write_all.Reads as write-all-reads
 
 enum-known-listed : tie.Need-enum-known-listed
 enum-known-listed c = search needs

@@ -3,12 +3,6 @@ use lib.ListN.{length-take}
 use borrow.Author.Needs.{needs}
 use Rattle.cases.proofs.print_rewritten.Statement.{statement}
 use Rattle.cases.proofs.print_rewritten.Tie as tie
-use Rattle.cases.proofs.print_rewritten.Reads as reads
-use Rattle.cases.proofs.print_rewritten.Lts as lts
-use Rattle.cases.proofs.print_hex.Reads as print-hex-reads
-use Rattle.cases.proofs.print_refusal.Reads as print-refusal-reads
-use Rattle.record.proofs.read_record.Reads as read-record-reads
-use Rattle.record.proofs.write_record.Reads as write-record-reads
 
 read-record-requires : tie.Need-read-record-requires
 read-record-requires c κs = search needs

@@ -3,11 +3,6 @@ use lib.ListN.{length-take}
 use borrow.Author.Needs.{needs}
 use Rattle.cases.proofs.print_vector.Statement.{statement}
 use Rattle.cases.proofs.print_vector.Tie as tie
-use Rattle.cases.proofs.print_vector.Reads as reads
-use Rattle.cases.proofs.print_vector.Lts as lts
-use Rattle.cases.proofs.print_listed.Reads as print-listed-reads
-use Rattle.cases.proofs.print_rewritten.Reads as print-rewritten-reads
-use Rattle.listing.proofs.report.Reads as report-reads
 
 report-requires : tie.Need-report-requires
 report-requires c κs = search needs

@@ -4,9 +4,6 @@ use Rattle.exports.proofs.ResultLaws.{number-le}
 use borrow.Author.Needs.{needs}
 use Rattle.exports.proofs.codes.refused_at.Statement.{statement}
 use Rattle.exports.proofs.codes.refused_at.Tie as tie
-use Rattle.exports.proofs.codes.refused_at.Reads as reads
-use Rattle.exports.proofs.codes.refused_at.Lts as lts
-use Rattle.site.proofs.rule_number.Reads as rule-number-reads
 
 rule-number-requires : tie.Need-rule-number-requires
 rule-number-requires c κs = search needs

@@ -3,10 +3,6 @@ use Rattle.exports.specs.Results.{listedCode}
 use borrow.Author.Needs.{needs}
 use Rattle.exports.proofs.file_calls.forest_list.Statement.{statement}
 use Rattle.exports.proofs.file_calls.forest_list.Tie as tie
-use Rattle.exports.proofs.file_calls.forest_list.Reads as reads
-use Rattle.exports.proofs.file_calls.forest_list.Lts as lts
-use Rattle.exports.proofs.file_calls.listed_code.Reads as listed-code-reads
-use Rattle.listing.proofs.list.Reads as list-reads
 
 list-requires : tie.Need-list-requires
 list-requires c κs = search needs

@@ -3,10 +3,6 @@ use Rattle.exports.specs.Results.{listedCode}
 use borrow.Author.Needs.{needs}
 use Rattle.exports.proofs.file_calls.forest_report.Statement.{statement}
 use Rattle.exports.proofs.file_calls.forest_report.Tie as tie
-use Rattle.exports.proofs.file_calls.forest_report.Reads as reads
-use Rattle.exports.proofs.file_calls.forest_report.Lts as lts
-use Rattle.exports.proofs.file_calls.listed_code.Reads as listed-code-reads
-use Rattle.listing.proofs.report.Reads as report-reads
 
 report-requires : tie.Need-report-requires
 report-requires c κs = search needs

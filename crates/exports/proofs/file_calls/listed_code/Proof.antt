@@ -2,9 +2,6 @@ use Rattle.exports.specs.Results.{listedCode}
 use borrow.Author.Needs.{needs}
 use Rattle.exports.proofs.file_calls.listed_code.Statement.{statement}
 use Rattle.exports.proofs.file_calls.listed_code.Tie as tie
-use Rattle.exports.proofs.file_calls.listed_code.Reads as reads
-use Rattle.exports.proofs.file_calls.listed_code.Lts as lts
-use Rattle.exports.proofs.codes.refused_at.Reads as refused-at-reads
 
 enum-known-listed : tie.Need-enum-known-listed
 enum-known-listed c = search needs

@@ -4,8 +4,6 @@ use lib.ListN.{List·getD-eq-default}
 use borrow.Author.Needs.{needs}
 use Rattle.exports.proofs.layout.byte.Statement.{statement}
 use Rattle.exports.proofs.layout.byte.Tie as tie
-use Rattle.exports.proofs.layout.byte.Reads as reads
-use Rattle.exports.proofs.layout.byte.Lts as lts
 
 shared-slice-read-result : tie.Need-shared-slice-read-result
 shared-slice-read-result c = search needs

@@ -2,10 +2,6 @@ use Rattle.exports.specs.Layout.{entryIn}
 use borrow.Author.Needs.{needs}
 use Rattle.exports.proofs.layout.entry.Statement.{statement}
 use Rattle.exports.proofs.layout.entry.Tie as tie
-use Rattle.exports.proofs.layout.entry.Reads as reads
-use Rattle.exports.proofs.layout.entry.Lts as lts
-use Rattle.exports.proofs.layout.byte.Reads as byte-reads
-use Rattle.exports.proofs.layout.word.Reads as word-reads
 
 byte-requires : tie.Need-byte-requires
 byte-requires c κs = search needs

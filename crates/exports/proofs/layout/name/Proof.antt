@@ -2,9 +2,6 @@ use Rattle.exports.specs.Layout.{siteIn}
 use borrow.Author.Needs.{needs}
 use Rattle.exports.proofs.layout.name.Statement.{statement}
 use Rattle.exports.proofs.layout.name.Tie as tie
-use Rattle.exports.proofs.layout.name.Reads as reads
-use Rattle.exports.proofs.layout.name.Lts as lts
-use Rattle.exports.proofs.layout.byte.Reads as byte-reads
 
 byte-requires : tie.Need-byte-requires
 byte-requires c κs = search needs

@@ -2,12 +2,6 @@ use Rattle.exports.specs.Layout.{siteIn}
 use borrow.Author.Needs.{needs}
 use Rattle.exports.proofs.layout.site_in.Statement.{statement}
 use Rattle.exports.proofs.layout.site_in.Tie as tie
-use Rattle.exports.proofs.layout.site_in.Reads as reads
-use Rattle.exports.proofs.layout.site_in.Lts as lts
-use Rattle.exports.proofs.layout.byte.Reads as byte-reads
-use Rattle.exports.proofs.layout.name.Reads as name-reads
-use Rattle.exports.proofs.layout.stand.Reads as stand-reads
-use Rattle.exports.proofs.layout.word.Reads as word-reads
 
 name-requires : tie.Need-name-requires
 name-requires c κs = search needs

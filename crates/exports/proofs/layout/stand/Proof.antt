@@ -2,9 +2,6 @@ use Rattle.exports.specs.Layout.{siteIn}
 use borrow.Author.Needs.{needs}
 use Rattle.exports.proofs.layout.stand.Statement.{statement}
 use Rattle.exports.proofs.layout.stand.Tie as tie
-use Rattle.exports.proofs.layout.stand.Reads as reads
-use Rattle.exports.proofs.layout.stand.Lts as lts
-use Rattle.exports.proofs.layout.entry.Reads as entry-reads
 
 entry-requires : tie.Need-entry-requires
 entry-requires c κs = search needs

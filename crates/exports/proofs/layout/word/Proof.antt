@@ -2,10 +2,6 @@ use Rattle.exports.specs.Layout.{wordIn}
 use borrow.Author.Needs.{needs}
 use Rattle.exports.proofs.layout.word.Statement.{statement}
 use Rattle.exports.proofs.layout.word.Tie as tie
-use Rattle.exports.proofs.layout.word.Reads as reads
-use Rattle.exports.proofs.layout.word.Lts as lts
-use Rattle.exports.proofs.layout.byte.Reads as byte-reads
-use Rattle.exports.proofs.layout.join.Reads as join-reads
 
 byte-requires : tie.Need-byte-requires
 byte-requires c κs = search needs

@@ -3,12 +3,6 @@ use Rattle.exports.proofs.RewriteLaws.{not-read, not-written, rewritten
 use borrow.Author.Needs.{needs}
 use Rattle.exports.proofs.record_calls.forest_rewrite.Statement.{statement}
 use Rattle.exports.proofs.record_calls.forest_rewrite.Tie as tie
-use Rattle.exports.proofs.record_calls.forest_rewrite.Reads as reads
-use Rattle.exports.proofs.record_calls.forest_rewrite.Lts as lts
-use Rattle.exports.proofs.codes.refused.Reads as refused-reads
-use Rattle.exports.proofs.codes.refused_at.Reads as refused-at-reads
-use Rattle.record.proofs.read_record.Reads as read-record-reads
-use Rattle.record.proofs.write_record.Reads as write-record-reads
 
 read-record-requires : tie.Need-read-record-requires
 read-record-requires c κs = search needs

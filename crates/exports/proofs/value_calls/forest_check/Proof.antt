@@ -7,11 +7,6 @@ use Rattle.exports.proofs.ValueLaws.{wrong-length, as-site}
 use borrow.Author.Needs.{needs}
 use Rattle.exports.proofs.value_calls.forest_check.Statement.{statement}
 use Rattle.exports.proofs.value_calls.forest_check.Tie as tie
-use Rattle.exports.proofs.value_calls.forest_check.Reads as reads
-use Rattle.exports.proofs.value_calls.forest_check.Lts as lts
-use Rattle.exports.proofs.layout.site_in.Reads as site-in-reads
-use Rattle.exports.proofs.codes.refused.Reads as refused-reads
-use Rattle.site.proofs.check_site.Reads as check-site-reads
 
 site-rule : (c : tie.After-check-site) → valueCheck (now (c .before .before .before .before .args .site)) ≡ siteRule (c .before .site-in .result)
 site-rule c =

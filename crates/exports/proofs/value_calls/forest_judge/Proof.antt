@@ -12,13 +12,6 @@ use Rattle.exports.proofs.ValueLaws.{wrong-length, as-site, refused, sh
 use borrow.Author.Needs.{needs}
 use Rattle.exports.proofs.value_calls.forest_judge.Statement.{statement}
 use Rattle.exports.proofs.value_calls.forest_judge.Tie as tie
-use Rattle.exports.proofs.value_calls.forest_judge.Reads as reads
-use Rattle.exports.proofs.value_calls.forest_judge.Lts as lts
-use Rattle.exports.proofs.layout.site_in.Reads as site-in-reads
-use Rattle.exports.proofs.value_calls.put_four.Reads as put-four-reads
-use Rattle.exports.proofs.codes.refused.Reads as refused-reads
-use Rattle.exports.proofs.value_calls.verdict_marked.Reads as verdict-marked-reads
-use Rattle.judgement.proofs.judge.Reads as judge-reads
 
 -- the check of the value, where its length is right
 site-rule : (c : tie.After-judge) → valueCheck (now (c .before .before .before .before .before .args .site)) ≡ siteRule (c .before .site-in .result)

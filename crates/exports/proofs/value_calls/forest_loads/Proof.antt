@@ -12,12 +12,6 @@ use Rattle.exports.proofs.ValueLaws.{wrong-length, as-site, refused, sh
 use borrow.Author.Needs.{needs}
 use Rattle.exports.proofs.value_calls.forest_loads.Statement.{statement}
 use Rattle.exports.proofs.value_calls.forest_loads.Tie as tie
-use Rattle.exports.proofs.value_calls.forest_loads.Reads as reads
-use Rattle.exports.proofs.value_calls.forest_loads.Lts as lts
-use Rattle.exports.proofs.layout.site_in.Reads as site-in-reads
-use Rattle.exports.proofs.value_calls.put_four.Reads as put-four-reads
-use Rattle.exports.proofs.codes.refused.Reads as refused-reads
-use Rattle.loads.proofs.critical_loads.Reads as critical-loads-reads
 
 -- the check of the value, where its length is right
 site-rule : (c : tie.After-critical-loads) → valueCheck (now (c .before .before .before .before .before .args .site)) ≡ siteRule (c .before .site-in .result)

@@ -3,8 +3,6 @@ use lib.ListN.{length-set}
 use borrow.Author.Needs.{needs}
 use Rattle.exports.proofs.value_calls.put_four.Statement.{statement}
 use Rattle.exports.proofs.value_calls.put_four.Tie as tie
-use Rattle.exports.proofs.value_calls.put_four.Reads as reads
-use Rattle.exports.proofs.value_calls.put_four.Lts as lts
 
 array-read-out : tie.Need-array-read-out
 array-read-out c = search needs

@@ -3,9 +3,6 @@ use Rattle.exports.specs.Layout.{markNumber, verdictMarked}
 use borrow.Author.Needs.{needs}
 use Rattle.exports.proofs.value_calls.verdict_marked.Statement.{statement}
 use Rattle.exports.proofs.value_calls.verdict_marked.Tie as tie
-use Rattle.exports.proofs.value_calls.verdict_marked.Reads as reads
-use Rattle.exports.proofs.value_calls.verdict_marked.Lts as lts
-use Rattle.judgement.proofs.region_number.Reads as region-number-reads
 
 enum-told : tie.Need-enum-told
 enum-told c = search needs

@@ -1,4 +1,3 @@
--- `judgement::exceedance::acid_in` meets its contract. Assumes nothing.
 use mathlib.Core.Path.{sym, _∙_}
 use native.Mathlib.Omega.{arith}
 use Rattle.judgement.specs.Regions.{acidIn}
@@ -6,10 +5,6 @@ use Rattle.judgement.proofs.NotCutOff.{in-four, in-three, in-one, in-tw
 use borrow.Author.Needs.{needs}
 use Rattle.judgement.proofs.exceedance.acid_in.Statement.{statement}
 use Rattle.judgement.proofs.exceedance.acid_in.Tie as tie
-use Rattle.judgement.proofs.exceedance.acid_in.Reads as reads
-use Rattle.judgement.proofs.exceedance.acid_in.Lts as lts
-use Rattle.judgement.proofs.exceedance.acid_no_sulphur.Reads as acid-no-sulphur-reads
-use Rattle.judgement.proofs.exceedance.acid_slope.Reads as acid-slope-reads
 
 enum-told : tie.Need-enum-told
 enum-told c = search needs

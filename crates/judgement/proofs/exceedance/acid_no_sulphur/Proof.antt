@@ -1,12 +1,8 @@
--- `judgement::exceedance::acid_no_sulphur` meets its contract. Assumes nothing.
 use native.Mathlib.Omega.{arith}
 use native.Mathlib.Nat.{mul-le-mul}
 use borrow.Author.Needs.{needs}
 use Rattle.judgement.proofs.exceedance.acid_no_sulphur.Statement.{statement}
 use Rattle.judgement.proofs.exceedance.acid_no_sulphur.Tie as tie
-use Rattle.judgement.proofs.exceedance.acid_no_sulphur.Reads as reads
-use Rattle.judgement.proofs.exceedance.acid_no_sulphur.Lts as lts
-use Rattle.judgement.proofs.exceedance.up_by.Reads as up-by-reads
 
 mul-up-by : tie.Need-mul-up-by
 mul-up-by c = omega (arith, mul-le-mul (c .pre .2) (c .pre .3))

@@ -1,4 +1,3 @@
--- `judgement::exceedance::acid_slope` meets its contract. Assumes nothing.
 use Prim.Native.Nat.{_+_, _*_, _-_, _≤_}
 use native.Mathlib.Omega.{arith}
 use native.Mathlib.Nat.{mul-le-mul}
@@ -7,9 +6,6 @@ use Rattle.loads.proofs.Numbers.{prod}
 use borrow.Author.Needs.{needs}
 use Rattle.judgement.proofs.exceedance.acid_slope.Statement.{statement}
 use Rattle.judgement.proofs.exceedance.acid_slope.Tie as tie
-use Rattle.judgement.proofs.exceedance.acid_slope.Reads as reads
-use Rattle.judgement.proofs.exceedance.acid_slope.Lts as lts
-use Rattle.judgement.proofs.exceedance.up_by.Reads as up-by-reads
 
 sizes :
     (c : tie.Start) → let a = c .args in

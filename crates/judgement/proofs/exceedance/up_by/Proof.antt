@@ -1,4 +1,3 @@
--- `judgement::exceedance::up_by` meets its contract. Assumes nothing.
 use Prim.Native.Nat.{_+_, _-_}
 use mathlib.Core.Path.{refl}
 use native.Mathlib.Omega.{arith}
@@ -7,8 +6,6 @@ use Rattle.loads.specs.Rounding.{up}
 use borrow.Author.Needs.{needs}
 use Rattle.judgement.proofs.exceedance.up_by.Statement.{statement}
 use Rattle.judgement.proofs.exceedance.up_by.Tie as tie
-use Rattle.judgement.proofs.exceedance.up_by.Reads as reads
-use Rattle.judgement.proofs.exceedance.up_by.Lts as lts
 
 sub-result : tie.Need-sub-result
 sub-result c = search needs

@@ -13,11 +13,6 @@ use Rattle.judgement.proofs.AnswerLaws.{whole, verdict-by-loads}
 use borrow.Author.Needs.{needs}
 use Rattle.judgement.proofs.judging.judge.Statement.{statement}
 use Rattle.judgement.proofs.judging.judge.Tie as tie
-use Rattle.judgement.proofs.judging.judge.Reads as reads
-use Rattle.judgement.proofs.judging.judge.Lts as lts
-use Rattle.judgement.proofs.judging.verdict_at.Reads as verdict-at-reads
-use Rattle.loads.proofs.critical_loads.Reads as critical-loads-reads
-use Rattle.loads.proofs.retained_of.Reads as retained-of-reads
 
 -- the site passed the check, and these are its loads
 loaded :

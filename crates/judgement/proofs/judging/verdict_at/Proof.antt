@@ -2,13 +2,6 @@ use Rattle.judgement.specs.Regions.{acidOf}
 use borrow.Author.Needs.{needs}
 use Rattle.judgement.proofs.judging.verdict_at.Statement.{statement}
 use Rattle.judgement.proofs.judging.verdict_at.Tie as tie
-use Rattle.judgement.proofs.judging.verdict_at.Reads as reads
-use Rattle.judgement.proofs.judging.verdict_at.Lts as lts
-use Rattle.judgement.proofs.exceedance.above.Reads as above-reads
-use Rattle.judgement.proofs.exceedance.acid_in.Reads as acid-in-reads
-use Rattle.judgement.proofs.judging.verdict_from.Reads as verdict-from-reads
-use Rattle.judgement.proofs.judging.wide.Reads as wide-reads
-use Rattle.judgement.proofs.regions.region_of.Reads as region-of-reads
 
 wide-requires : tie.Need-wide-requires
 wide-requires c κs = search needs

@@ -5,9 +5,6 @@ use Rattle.judgement.specs.Regions.{regionNumber}
 use Rattle.judgement.specs.Verdicts.{verdictOf}
 use Rattle.judgement.proofs.judging.verdict_from.Statement.{statement}
 use Rattle.judgement.proofs.judging.verdict_from.Tie as tie
-use Rattle.judgement.proofs.judging.verdict_from.Reads as reads
-use Rattle.judgement.proofs.judging.verdict_from.Lts as lts
-use Rattle.judgement.proofs.regions.region_number.Reads as region-number-reads
 
 region-number-requires : tie.Need-region-number-requires
 region-number-requires c κs = search needs

@@ -2,8 +2,6 @@ use Rattle.judgement.specs.Regions.{regionNumber}
 use borrow.Author.Needs.{needs}
 use Rattle.judgement.proofs.regions.region_number.Statement.{statement}
 use Rattle.judgement.proofs.regions.region_number.Tie as tie
-use Rattle.judgement.proofs.regions.region_number.Reads as reads
-use Rattle.judgement.proofs.regions.region_number.Lts as lts
 
 enum-told : tie.Need-enum-told
 enum-told c = search needs

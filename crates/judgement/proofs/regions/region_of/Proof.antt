@@ -1,15 +1,11 @@
--- `judgement::regions::region_of` meets its contract. Assumes nothing.
-use Prim.Native.Nat.{ℕ, _+_, _*_, _-_, _≤_, _<_}
-use mathlib.Core.Path.{_≡_, sym}
+use Prim.Native.Nat.{_-_}
+use mathlib.Core.Path.{sym}
 use native.Mathlib.Omega.{arith}
-use native.Mathlib.Nat.{mul-le-mul}
 use borrow.Author.Needs.{needs}
 use Rattle.judgement.specs.Regions.{D, excess}
 use Rattle.judgement.proofs.RegionLaws.{Sizes, sizes, none-left, closes-zero, is-four, is-three, is-one, is-two}
 use Rattle.judgement.proofs.regions.region_of.Statement.{statement}
 use Rattle.judgement.proofs.regions.region_of.Tie as tie
-use Rattle.judgement.proofs.regions.region_of.Reads as reads
-use Rattle.judgement.proofs.regions.region_of.Lts as lts
 
 -- the products' sizes, at the entry
 at-entry : (c : tie.Start) → Sizes (c .args .s) (c .args .n) (c .args .c) (c .args .m) (c .args .e)

@@ -1,4 +1,3 @@
--- `listing::printing::report` meets its contract.
 use denote.Ref.{now}
 use Rattle.listing.specs.File.{contents}
 use Rattle.listing.proofs.ListLaws.{found-sites, found-fault, by-sites, reported-sites, reported-fault}

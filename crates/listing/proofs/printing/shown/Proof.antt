@@ -1,4 +1,3 @@
--- `listing::printing::shown` meets its contract.
 use denote.Ref.{now}
 use Rattle.listing.specs.Listing.{reportOf}
 use Rattle.listing.proofs.ListLaws.{as-answered}

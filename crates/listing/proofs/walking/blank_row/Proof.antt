@@ -1,4 +1,3 @@
--- `listing::walking::blank_row` meets its contract.
 use mathlib.Core.Path.{refl}
 use Rattle.listing.specs.Rows.{blankRow}
 use Rattle.listing.proofs.walking.blank_row.Statement.{statement}

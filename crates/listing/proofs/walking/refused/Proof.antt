@@ -1,4 +1,3 @@
--- `listing::walking::refused` meets its contract.
 use Rattle.listing.specs.Rows.{padded, walkedOf}
 use borrow.Author.Needs.{needs}
 use Rattle.listing.proofs.walking.refused.Statement.{statement}

@@ -1,4 +1,3 @@
--- `listing::walking::row_by` meets its contract.
 use mathlib.Core.Path.{refl}
 use Rattle.listing.specs.Rows.{rowBy}
 use Rattle.listing.proofs.walking.row_by.Statement.{statement}

@@ -1,4 +1,3 @@
--- `listing::walking::turn` meets its contract.
 use denote.Ref.{now}
 use Rattle.listing.proofs.TurnLaws.{turn-refused, judged, turn-accepted}
 use borrow.Author.Needs.{needs}

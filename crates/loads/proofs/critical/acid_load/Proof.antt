@@ -1,15 +1,8 @@
--- `loads::critical::acid_load` meets its contract. Assumes nothing.
 use native.Mathlib.Omega.{arith}
-use mathlib.Core.Path.{refl}
 use Rattle.loads.specs.Conditions.{acidLoad}
 use borrow.Author.Needs.{needs}
 use Rattle.loads.proofs.critical.acid_load.Statement.{statement}
 use Rattle.loads.proofs.critical.acid_load.Tie as tie
-use Rattle.loads.proofs.critical.acid_load.Reads as reads
-use Rattle.loads.proofs.critical.acid_load.Lts as lts
-use Rattle.loads.proofs.hydrogen.critical_leaching.Reads as critical-leaching-reads
-use Rattle.loads.proofs.hydrogen.aluminium_limit.Reads as aluminium-limit-reads
-use Rattle.loads.proofs.uptake.base_uptake.Reads as base-uptake-reads
 
 add-supply : tie.Need-add-supply
 add-supply c = search needs

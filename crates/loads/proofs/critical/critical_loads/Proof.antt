@@ -7,10 +7,6 @@ use Rattle.loads.proofs.AnswerLaws.{whole}
 use borrow.Author.Needs.{needs}
 use Rattle.loads.proofs.critical.critical_loads.Statement.{statement}
 use Rattle.loads.proofs.critical.critical_loads.Tie as tie
-use Rattle.loads.proofs.critical.critical_loads.Reads as reads
-use Rattle.loads.proofs.critical.critical_loads.Lts as lts
-use Rattle.loads.proofs.critical.loads_of.Reads as loads-of-reads
-use Rattle.site.proofs.check_site.Reads as check-site-reads
 
 passed : (c : tie.After-enum-told) → siteRule (c .before .before .before .args .site) ≡ Passed
 passed c = sym (c .before .before .check-site .ensures .0) ∙ c .enum-told .given .1

@@ -6,15 +6,6 @@ use Rattle.loads.proofs.TermLaws.{demand-is, minN-plain, maxN-is, nutN-
 use borrow.Author.Needs.{needs}
 use Rattle.loads.proofs.critical.loads_of.Statement.{statement}
 use Rattle.loads.proofs.critical.loads_of.Tie as tie
-use Rattle.loads.proofs.critical.loads_of.Reads as reads
-use Rattle.loads.proofs.critical.loads_of.Lts as lts
-use Rattle.loads.proofs.critical.max_s_of.Reads as max-s-of-reads
-use Rattle.loads.proofs.critical.with_nitrogen.Reads as with-nitrogen-reads
-use Rattle.loads.proofs.nitrogen.leaching_of.Reads as leaching-of-reads
-use Rattle.loads.proofs.nitrogen.retained_of.Reads as retained-of-reads
-use Rattle.loads.proofs.uptake.stand_sums.Reads as stand-sums-reads
-use Rattle.loads.proofs.widen.index8.Reads as index8-reads
-use Rattle.loads.proofs.widen.wide16.Reads as wide16-reads
 
 retained-site : (c : tie.After-retained-of) → c .retained-of .result ≡ retained (c .before .before .before .before .before .before .before .before .before .before .args .s)
 retained-site c = rw (c .retained-of .ensures, retained-is (c .before .before .before .before .before .before .before .before .before .before .args .s))

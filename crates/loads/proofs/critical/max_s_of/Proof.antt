@@ -1,5 +1,4 @@
--- `loads::critical::max_s_of` meets its contract: each part is the site's term, by its law. Assumes nothing.
-use Prim.Native.Nat.{_≤_}
+-- `loads::critical::max_s_of` meets its contract: each part is the site's term, by its law.
 use mathlib.Core.Path.{_≡_, sym, _∙_}
 use native.Mathlib.Omega.{arith}
 use Rattle.loads.specs.Weathering.{weathering, availableWeathering}
@@ -7,13 +6,6 @@ use Rattle.loads.proofs.TermLaws.{weathering-is, available-is, maxS-pla
 use borrow.Author.Needs.{needs}
 use Rattle.loads.proofs.critical.max_s_of.Statement.{statement}
 use Rattle.loads.proofs.critical.max_s_of.Tie as tie
-use Rattle.loads.proofs.critical.max_s_of.Reads as reads
-use Rattle.loads.proofs.critical.max_s_of.Lts as lts
-use Rattle.loads.proofs.critical.acid_load.Reads as acid-load-reads
-use Rattle.loads.proofs.weathering.available_of.Reads as available-of-reads
-use Rattle.loads.proofs.widen.wide16.Reads as wide16-reads
-use Rattle.loads.proofs.widen.wide8.Reads as wide8-reads
-use Rattle.loads.proofs.weathering.weathering_of.Reads as weathering-of-reads
 
 weathered : (c : tie.After-weathering-of) → c .weathering-of .result ≡ weathering (c .before .args .s)
 weathered c = c .weathering-of .ensures ∙ sym (weathering-is (c .before .args .s))

@@ -1,12 +1,9 @@
--- `loads::critical::with_nitrogen` meets its contract. Assumes nothing.
 use Prim.Native.Nat.{_*_}
 use native.Mathlib.Omega.{arith}
 use native.Mathlib.Nat.{div-le-self}
 use borrow.Author.Needs.{needs}
 use Rattle.loads.proofs.critical.with_nitrogen.Statement.{statement}
 use Rattle.loads.proofs.critical.with_nitrogen.Tie as tie
-use Rattle.loads.proofs.critical.with_nitrogen.Reads as reads
-use Rattle.loads.proofs.critical.with_nitrogen.Lts as lts
 
 mul-t5 : tie.Need-mul-t5
 mul-t5 c = search needs

@@ -1,4 +1,3 @@
--- `loads::hydrogen::aluminium_at` meets its contract. Assumes nothing.
 use native.Mathlib.Omega.{arith}
 use Rattle.loads.specs.Hydrogen.{alOf}
 use Rattle.loads.proofs.LevelLaws.{cube, square-le, cube-le, qk-le, al-le}

@@ -1,12 +1,9 @@
--- `loads::hydrogen::aluminium_limit` meets its contract. Assumes nothing.
 use native.Mathlib.Omega.{arith}
 use mathlib.Core.Path.{refl}
 use native.Mathlib.Nat.{div-le-of-le-mul}
 use borrow.Author.Needs.{needs}
 use Rattle.loads.proofs.hydrogen.aluminium_limit.Statement.{statement}
 use Rattle.loads.proofs.hydrogen.aluminium_limit.Tie as tie
-use Rattle.loads.proofs.hydrogen.aluminium_limit.Reads as reads
-use Rattle.loads.proofs.hydrogen.aluminium_limit.Lts as lts
 
 mul-result : tie.Need-mul-result
 mul-result c = search needs

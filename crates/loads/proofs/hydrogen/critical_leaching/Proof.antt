@@ -1,6 +1,4 @@
--- `loads::hydrogen::critical_leaching` meets its contract. Assumes nothing.
 use Prim.Native.Nat.{_≤_}
-use mathlib.Core.Path.{refl}
 use native.Mathlib.Omega.{arith}
 use Rattle.loads.specs.Hydrogen.{hydrogenOf}
 use Rattle.loads.proofs.Numbers.{prod}
@@ -8,10 +6,6 @@ use Rattle.loads.proofs.LevelLaws.{level-le, level-allowed, alOf-bound}
 use borrow.Author.Needs.{needs}
 use Rattle.loads.proofs.hydrogen.critical_leaching.Statement.{statement}
 use Rattle.loads.proofs.hydrogen.critical_leaching.Tie as tie
-use Rattle.loads.proofs.hydrogen.critical_leaching.Reads as reads
-use Rattle.loads.proofs.hydrogen.critical_leaching.Lts as lts
-use Rattle.loads.proofs.hydrogen.aluminium_at.Reads as aluminium-at-reads
-use Rattle.loads.proofs.hydrogen.level.Reads as level-reads
 
 -- the level is at most the ceiling
 at-most : (c : tie.After-level) → c .level .result ≤ 5000

@@ -5,11 +5,6 @@ use Rattle.loads.proofs.LevelLaws.{level-passed, whole}
 use borrow.Author.Needs.{needs}
 use Rattle.loads.proofs.hydrogen.greatest_level.Statement.{statement}
 use Rattle.loads.proofs.hydrogen.greatest_level.Tie as tie
-use Rattle.loads.proofs.hydrogen.greatest_level.Reads as reads
-use Rattle.loads.proofs.hydrogen.greatest_level.Lts as lts
-use Rattle.loads.proofs.hydrogen.level.Reads as level-reads
-use Rattle.loads.proofs.hydrogen.level_rule.Reads as level-rule-reads
-use Rattle.loads.proofs.widen.wide16.Reads as wide16-reads
 
 passed : (c : tie.After-enum-told) → let a = c .before .before .before .args in levelRule (a .q) (a .k) (a .ceiling) ≡ Passed
 passed c = sym (c .before .before .level-rule .ensures) ∙ c .enum-told .given .1

@@ -1,16 +1,13 @@
 -- `loads::hydrogen::level` meets its contract. The loop's invariant: low is allowed and high is not, so the level is from low to below high.
--- Assumes nothing.
+--
 use Prim.Native.Nat.{suc, _≤_, _<_, _-_}
 use mathlib.Core.Path.{_≡_, sym}
 use native.Mathlib.Omega.{arith}
 use borrow.Author.Needs.{needs}
-use Rattle.loads.specs.Hydrogen.{alOf, levelOf}
+use Rattle.loads.specs.Hydrogen.{alOf}
 use Rattle.loads.proofs.LevelLaws.{alOf-zero, above-pos, level-is}
 use Rattle.loads.proofs.hydrogen.level.Statement.{statement}
 use Rattle.loads.proofs.hydrogen.level.Tie as tie
-use Rattle.loads.proofs.hydrogen.level.Reads as reads
-use Rattle.loads.proofs.hydrogen.level.Lts as lts
-use Rattle.loads.proofs.hydrogen.aluminium_at.Reads as aluminium-at-reads
 
 abbrev Inv-loop : tie.InvT-loop
 Inv-loop q k limit ceiling low₀ high₀ low high =

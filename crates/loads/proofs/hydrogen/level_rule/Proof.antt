@@ -6,9 +6,6 @@ use Rattle.loads.specs.Hydrogen.{levelRule}
 use borrow.Author.Needs.{needs}
 use Rattle.loads.proofs.hydrogen.level_rule.Statement.{statement}
 use Rattle.loads.proofs.hydrogen.level_rule.Tie as tie
-use Rattle.loads.proofs.hydrogen.level_rule.Reads as reads
-use Rattle.loads.proofs.hydrogen.level_rule.Lts as lts
-use Rattle.site.proofs.word_between.Reads as word-between-reads
 
 first : (c : tie.After-word-between2) → between 1 3000 (c .before .before .before .before .args .q) ≡ Passed
 first c = sym (c .before .before .before .word-between .ensures) ∙ c .before .enum-told .given .1

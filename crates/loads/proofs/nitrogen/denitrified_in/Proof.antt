@@ -5,9 +5,6 @@ use Rattle.loads.proofs.Tables.{denitrified-le}
 use borrow.Author.Needs.{needs}
 use Rattle.loads.proofs.nitrogen.denitrified_in.Statement.{statement}
 use Rattle.loads.proofs.nitrogen.denitrified_in.Tie as tie
-use Rattle.loads.proofs.nitrogen.denitrified_in.Reads as reads
-use Rattle.loads.proofs.nitrogen.denitrified_in.Lts as lts
-use Rattle.loads.proofs.widen.wide16.Reads as wide16-reads
 
 mul-wide16 : tie.Need-mul-wide16
 mul-wide16 c = search needs

@@ -1,11 +1,8 @@
--- `loads::nitrogen::leaching_of` meets its contract. Assumes nothing.
 use mathlib.Core.Path.{refl}
 use native.Mathlib.Omega.{arith}
 use native.Mathlib.Nat.{mul-le-mul}
 use Rattle.loads.proofs.nitrogen.leaching_of.Statement.{statement}
 use Rattle.loads.proofs.nitrogen.leaching_of.Tie as tie
-use Rattle.loads.proofs.nitrogen.leaching_of.Reads as reads
-use Rattle.loads.proofs.nitrogen.leaching_of.Lts as lts
 
 mul-result : tie.Need-mul-result
 mul-result c = omega (arith, mul-le-mul (c .pre .0) (c .pre .1))

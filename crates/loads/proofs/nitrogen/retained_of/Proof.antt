@@ -4,10 +4,6 @@ use Rattle.loads.proofs.Tables.{denitrified-none}
 use borrow.Author.Needs.{needs}
 use Rattle.loads.proofs.nitrogen.retained_of.Statement.{statement}
 use Rattle.loads.proofs.nitrogen.retained_of.Tie as tie
-use Rattle.loads.proofs.nitrogen.retained_of.Reads as reads
-use Rattle.loads.proofs.nitrogen.retained_of.Lts as lts
-use Rattle.loads.proofs.nitrogen.denitrified_in.Reads as denitrified-in-reads
-use Rattle.loads.proofs.widen.index8.Reads as index8-reads
 
 index8-requires : tie.Need-index8-requires
 index8-requires c κs = search needs

@@ -1,4 +1,3 @@
--- `loads::texture::texture_of` meets its contract.
 use mathlib.Core.Path.{sym}
 use native.Mathlib.Omega.{arith}
 use Rattle.loads.specs.Texture.{textureNumber}

@@ -3,8 +3,6 @@ use Rattle.loads.specs.Texture.{textureNumber}
 use borrow.Author.Needs.{needs}
 use Rattle.loads.proofs.texture.texture_place.Statement.{statement}
 use Rattle.loads.proofs.texture.texture_place.Tie as tie
-use Rattle.loads.proofs.texture.texture_place.Reads as reads
-use Rattle.loads.proofs.texture.texture_place.Lts as lts
 
 enum-told : tie.Need-enum-told
 enum-told c = search needs

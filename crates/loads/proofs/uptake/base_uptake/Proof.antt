@@ -1,12 +1,9 @@
--- `loads::uptake::base_uptake` meets its contract. Assumes nothing.
 use native.Mathlib.Omega.{arith}
 use Rattle.loads.specs.Rounding.{up}
 use Rattle.loads.specs.Uptake.{baseUptakeOf}
 use borrow.Author.Needs.{needs}
 use Rattle.loads.proofs.uptake.base_uptake.Statement.{statement}
 use Rattle.loads.proofs.uptake.base_uptake.Tie as tie
-use Rattle.loads.proofs.uptake.base_uptake.Reads as reads
-use Rattle.loads.proofs.uptake.base_uptake.Lts as lts
 
 add-least : tie.Need-add-least
 add-least c = search needs

@@ -1,5 +1,5 @@
--- `loads::uptake::stand_sums` meets its contract. The loop's invariant: the sums are those over the first i entries. Assumes nothing.
-use Prim.Native.Nat.{_+_, _*_, _-_, _≤_}
+-- `loads::uptake::stand_sums` meets its contract. The loop's invariant: the sums are those over the first i entries.
+use Prim.Native.Nat.{_*_, _-_, _≤_}
 use mathlib.Core.Path.{_≡_, sym}
 use native.Mathlib.Omega.{arith}
 use native.Mathlib.Numerals.{add-one}
@@ -7,9 +7,6 @@ use Rattle.loads.proofs.UptakeLaws.{sum-none, sum-more}
 use Rattle.loads.specs.Uptake.{nitrogenIn, baseIn, standSum}
 use Rattle.loads.proofs.uptake.stand_sums.Statement.{statement}
 use Rattle.loads.proofs.uptake.stand_sums.Tie as tie
-use Rattle.loads.proofs.uptake.stand_sums.Reads as reads
-use Rattle.loads.proofs.uptake.stand_sums.Lts as lts
-use Rattle.loads.proofs.uptake.weighed.Reads as weighed-reads
 
 abbrev Inv-loop : tie.InvT-loop
 Inv-loop entries stand nitrogen₀ base₀ i₀ nitrogen base i =

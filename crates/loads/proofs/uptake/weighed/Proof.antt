@@ -5,12 +5,6 @@ use Rattle.loads.proofs.Numbers.{prod}
 use borrow.Author.Needs.{needs}
 use Rattle.loads.proofs.uptake.weighed.Statement.{statement}
 use Rattle.loads.proofs.uptake.weighed.Tie as tie
-use Rattle.loads.proofs.uptake.weighed.Reads as reads
-use Rattle.loads.proofs.uptake.weighed.Lts as lts
-use Rattle.loads.proofs.uptake.contents_of.Reads as contents-of-reads
-use Rattle.loads.proofs.widen.index8.Reads as index8-reads
-use Rattle.loads.proofs.widen.wide16.Reads as wide16-reads
-use Rattle.loads.proofs.widen.wide8.Reads as wide8-reads
 
 -- share × yield
 yielded-le : (c : tie.After-wide16) → (c .before .wide8 .result) * (c .wide16 .result) ≤ 2000000

@@ -6,11 +6,6 @@ use Rattle.loads.specs.Weathering.{classOf}
 use borrow.Author.Needs.{needs}
 use Rattle.loads.proofs.weathering.class_of.Statement.{statement}
 use Rattle.loads.proofs.weathering.class_of.Tie as tie
-use Rattle.loads.proofs.weathering.class_of.Reads as reads
-use Rattle.loads.proofs.weathering.class_of.Lts as lts
-use Rattle.loads.proofs.texture.texture_of.Reads as texture-of-reads
-use Rattle.loads.proofs.texture.texture_place.Reads as texture-place-reads
-use Rattle.loads.proofs.widen.wide8.Reads as wide8-reads
 
 texture-of-requires : tie.Need-texture-of-requires
 texture-of-requires c κs = search needs

@@ -1,5 +1,5 @@
 use Prim.Native.Nat.{_*_, _-_, _≤_}
-use mathlib.Core.Path.{_≡_, _∙_, ap}
+use mathlib.Core.Path.{_≡_}
 use native.Mathlib.Omega.{arith}
 use borrow.Author.Tests.{eq-eqb, ne-eqb}
 use Rattle.loads.specs.Texture.{textureOf}
@@ -10,11 +10,6 @@ use Rattle.loads.proofs.TextureLaws.{texture-between}
 use borrow.Author.Needs.{needs}
 use Rattle.loads.proofs.weathering.weathering_of.Statement.{statement}
 use Rattle.loads.proofs.weathering.weathering_of.Tie as tie
-use Rattle.loads.proofs.weathering.weathering_of.Reads as reads
-use Rattle.loads.proofs.weathering.weathering_of.Lts as lts
-use Rattle.loads.proofs.weathering.class_of.Reads as class-of-reads
-use Rattle.loads.proofs.widen.index8.Reads as index8-reads
-use Rattle.loads.proofs.widen.wide8.Reads as wide8-reads
 
 -- the class, of which the bounds hold
 class : (c : tie.After-class-of) → let a = c .before .before .before .args in c .class-of .result ≡ classOf (a .parent) (textureOf (a .clay) (a .sand))

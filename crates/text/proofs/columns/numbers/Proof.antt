@@ -1,4 +1,3 @@
--- `text::columns::numbers` meets its contract.
 use Rattle.judgement.specs.Verdicts.{verdictNumbers}
 use Rattle.text.specs.Line.{numbersOf, loadNumbers}
 use borrow.Author.Needs.{needs}

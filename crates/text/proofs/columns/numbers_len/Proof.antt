@@ -1,4 +1,3 @@
--- `text::columns::numbers_len` meets its contract.
 use Prim.Native.Nat.{_-_, _*_, _≤_}
 use mathlib.Core.Path.{_≡_}
 use native.Mathlib.Omega.{arith}

@@ -1,4 +1,3 @@
--- `text::line::line_len` meets its contract.
 use native.Mathlib.Omega.{arith}
 use mathlib.Core.Path.{ap}
 use lib.ListN.{length}

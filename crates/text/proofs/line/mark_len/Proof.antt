@@ -1,4 +1,3 @@
--- `text::line::mark_len` meets its contract.
 use borrow.Author.Needs.{needs}
 use native.Mathlib.Omega.{arith}
 use Rattle.judgement.specs.Verdicts.{verdictWord}

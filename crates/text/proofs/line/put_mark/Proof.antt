@@ -1,4 +1,3 @@
--- `text::line::put_mark` meets its contract.
 use borrow.Author.Needs.{needs}
 use Rattle.judgement.specs.Verdicts.{verdictWord}
 use Rattle.text.specs.Line.{spaced}

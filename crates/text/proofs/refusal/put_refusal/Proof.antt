@@ -1,4 +1,3 @@
--- `text::refusal::put_refusal` meets its contract.
 use native.Mathlib.Omega.{arith}
 use denote.Ref.{now}
 use lib.ListN.{length-set}
