@@ -15,6 +15,7 @@ use Rattle.site.specs.declared.Checked.the-variants.{Passed, Broken}
 use Rattle.site.specs.Choice.{pick}
 use Rattle.site.specs.Values.{lengthPermitted, valueRule}
 use Rattle.record.specs.declared.Read.{Read}
+use Rattle.record.specs.declared.Outcome.{Outcome}
 use Rattle.record.specs.declared.Outcome.the-variants.{Accepted, Refused}
 use Rattle.record.specs.Bytes.{statedLen, valueAt, restAt}
 use Rattle.record.specs.Reader.{headRule, unless, walk, fieldSite, accepted, refusedAt}
@@ -25,6 +26,17 @@ unfolding refusedAt accepted
 not-refused r at s e =
     let o : Refused r at ≡ Accepted = ap (λ (r : Read). r .outcome) e in
     let z : _≡_ {A = ℕ} 0 1 = cc in omega arith
+
+abbrev pub readOf : Outcome → Site → Read
+readOf o s = record { outcome = o; site = s }
+
+pub accepted-is : (r : Read) → r .outcome ≡ Accepted → r ≡ accepted (r .site)
+unfolding accepted
+accepted-is r e = ap (λ (o : Outcome). readOf o (r .site)) e
+
+pub accepted-same : (x y : Site) → accepted x ≡ accepted y → x ≡ y
+unfolding accepted
+accepted-same x y e = ap (λ (r : Read). r .site) e
 
 pub unless-accepted : (c : Checked) (at : ℕ) (r : Read) (s : Site) → unless c at r ≡ accepted s → (c ≡ Passed) × (r ≡ accepted s)
 unfolding unless
@@ -43,8 +55,7 @@ Parsed [] x s bs = (x ≡ s) × (length bs ≡ 0)
 Parsed (t ∷ ts) x s bs = HeadOk t bs × (valueRule t (fieldSite t bs x) ≡ Passed) × Parsed ts (fieldSite t bs x) s (restAt bs)
 
 end-accepted : (b : Bool) (x s : Site) (at : ℕ) → pick b (accepted x) (refusedAt InnerTag at) ≡ accepted s → (b ≡ true) × (x ≡ s)
-unfolding accepted
-end-accepted true x s at e = (refl, ap (λ (r : Read). r .site) e)
+end-accepted true x s at e = (refl, accepted-same x s e)
 end-accepted false x s at e = absurd (not-refused InnerTag at s e)
 
 pub parse : (ts : List ℕ) (x s : Site) (bs : List ℕ) (at : ℕ) → walk ts x bs at ≡ accepted s → Parsed ts x s bs
