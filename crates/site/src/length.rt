@@ -9,9 +9,9 @@ use crate::Site;
 use crate::numbers::wide;
 
 // By tag from 0: the bytes of an item, and how many items there may be.
-const ITEM_WIDTHS: [usize; 16] = [1, 1, 1, 2, 1, 1, 2, 4, 2, 1, 2, 2, 2, 2, 2, 4];
+const ITEM_WIDTHS: [u8; 16] = [1, 1, 1, 2, 1, 1, 2, 4, 2, 1, 2, 2, 2, 2, 2, 4];
 
-const MOST_ITEMS: [usize; 16] = [0, 8, 1, 1, 1, 1, 1, 4, 1, 1, 1, 1, 1, 1, 1, 1];
+const MOST_ITEMS: [u8; 16] = [0, 8, 1, 1, 1, 1, 1, 4, 1, 1, 1, 1, 1, 1, 1, 1];
 
 pub fn length_permitted(tag: u8, n: usize) -> bool
     ensures { λ r. ⌜ r ≡ lengthPermitted tag n ⌝ }
@@ -23,8 +23,8 @@ pub fn length_permitted(tag: u8, n: usize) -> bool
     if n < 1 {
         return false;
     }
-    let width = ITEM_WIDTHS[t];
-    if width * MOST_ITEMS[t] < n {
+    let width = wide(ITEM_WIDTHS[t]);
+    if width * wide(MOST_ITEMS[t]) < n {
         return false;
     }
     // most fields are one item, and need no division
@@ -39,7 +39,7 @@ fn most_items(tag: u8) -> usize
 {
     let t = wide(tag);
     if t < 16 {
-        return MOST_ITEMS[t];
+        return wide(MOST_ITEMS[t]);
     }
     0
 }

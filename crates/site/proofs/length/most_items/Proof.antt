@@ -1,7 +1,7 @@
-use mathlib.Core.Path.{sym}
-use Prim.Native.Nat.{_≤_}
+use mathlib.Core.Path.{sym, ap, _∙_}
+use Prim.Native.Nat.{ℕ, _≤_}
 use native.Mathlib.Omega.{arith}
-use lib.ListN.{length, List·getD-eq-default}
+use lib.ListN.{length, getD, List·getD-eq-default}
 use borrow.Author.Needs.{needs}
 use Rattle.site.specs.Values.{mostItems}
 use Rattle.site.proofs.length.most_items.Statement.{statement}
@@ -10,14 +10,14 @@ use Rattle.site.proofs.length.most_items.Tie as tie
 wide-requires : tie.Need-wide-requires
 wide-requires c κs = search needs
 
-mul-result : tie.Need-mul-result
-mul-result c = search needs
+array-read-wide : tie.Need-array-read-wide
+array-read-wide c = search needs
 
-array-read-result : tie.Need-array-read-result
-array-read-result c = search needs
+wide-requires-2 : tie.Need-wide-requires-2
+wide-requires-2 c κs = search needs
 
 returns : tie.Need-returns
-returns c = rw (c .before .wide .ensures .0)
+returns c = c .wide2 .ensures .0 ∙ ap (λ (t : ℕ). getD mostItems t 0) (c .before .before .wide .ensures .0)
 
 returns-2 : tie.Need-returns-2
 returns-2 c =
@@ -25,4 +25,5 @@ returns-2 c =
     sym (List·getD-eq-default mostItems 0 {n = c .before .before .args .tag} h)
 
 pub most-items-spec : {M : Type 1} → statement M
-most-items-spec = tie.close (tie.spec wide-requires mul-result array-read-result returns returns-2)
+most-items-spec =
+    tie.close (tie.spec wide-requires array-read-wide wide-requires-2 returns returns-2)
