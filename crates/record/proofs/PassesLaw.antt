@@ -12,14 +12,14 @@ use Rattle.site.specs.Check.{fieldsRule, siteRule}
 use Rattle.site.specs.Refusal.{andThen}
 use Rattle.site.specs.Values.{due, lengthPermitted, itemCount, countRule, valueRule}
 use Rattle.site.proofs.LengthLaws.{permitted-parts, parts-counted}
-use Rattle.record.specs.Bytes.{table, entryAt}
-use Rattle.record.specs.Field.{blankSite, store}
+use Rattle.site.specs.Field.{table, entryAt, store}
+use Rattle.record.specs.Field.{blankSite}
 use Rattle.record.specs.Reader.{walk, accepted}
 use Rattle.record.specs.RoundTrip.{clean, Sized}
 use Rattle.record.proofs.All.{All, none, _▸_}
 use Rattle.record.proofs.TableLaws.{length-table, table-clean}
 use Rattle.record.proofs.EntryLaws.{entry-past}
-use Rattle.record.proofs.Parsed.{Parsed, parse, value-permitted}
+use Rattle.record.proofs.Parsed.{Parsed, parse}
 
 fields-passed : (ts : List ℕ) (s : Site) → All (λ t. countRule t s ≡ Passed) ts → All (λ t. valueRule t s ≡ Passed) ts → fieldsRule ts s ≡ Passed
 unfolding fieldsRule andThen
@@ -58,26 +58,26 @@ as-read : (s : Site) (bs : List ℕ) (at : ℕ) → walk due blankSite bs at ≡
 unfolding Parsed valueRule store clean
 as-read s bs at e =
     let p1 = parse due blankSite s bs at e in
-    let p2 = p1 .2 in
-    let p3 = p2 .2 in
-    let p4 = p3 .2 in
-    let p5 = p4 .2 in
-    let p6 = p5 .2 in
-    let p7 = p6 .2 in
-    let p8 = p7 .2 in
-    let p9 = p8 .2 in
-    let p10 = p9 .2 in
-    let p11 = p10 .2 in
-    let p12 = p11 .2 in
-    let p13 = p12 .2 in
-    let p14 = p13 .2 in
-    let p15 = p14 .2 in
-    subst AsRead (p15 .2 .0) record {
-      rules = p1 .1 ▸ p2 .1 ▸ p3 .1 ▸ p4 .1 ▸ p5 .1 ▸ p6 .1 ▸ p7 .1 ▸ p8 .1 ▸ p9 .1 ▸ p10 .1 ▸ p11 .1 ▸ p12 .1 ▸ p13 .1 ▸ p14 .1 ▸ p15 .1 ▸ none;
-      name = name-permitted _ (value-permitted 1 _ (p1 .0));
-      stand = stand-permitted _ (value-permitted 7 _ (p7 .0));
+    let p2 = p1 .3 in
+    let p3 = p2 .3 in
+    let p4 = p3 .3 in
+    let p5 = p4 .3 in
+    let p6 = p5 .3 in
+    let p7 = p6 .3 in
+    let p8 = p7 .3 in
+    let p9 = p8 .3 in
+    let p10 = p9 .3 in
+    let p11 = p10 .3 in
+    let p12 = p11 .3 in
+    let p13 = p12 .3 in
+    let p14 = p13 .3 in
+    let p15 = p14 .3 in
+    subst AsRead (p15 .3 .0) record {
+      rules = p1 .2 ▸ p2 .2 ▸ p3 .2 ▸ p4 .2 ▸ p5 .2 ▸ p6 .2 ▸ p7 .2 ▸ p8 .2 ▸ p9 .2 ▸ p10 .2 ▸ p11 .2 ▸ p12 .2 ▸ p13 .2 ▸ p14 .2 ▸ p15 .2 ▸ none;
+      name = name-permitted _ (p1 .1);
+      stand = stand-permitted _ (p7 .1);
       sized = record { name = length-table 8 _; stand = length-table 4 _ };
-      cleaned = rw (name-clean _, stand-clean _ (value-permitted 7 _ (p7 .0)));
+      cleaned = rw (name-clean _, stand-clean _ (p7 .1));
     }
 
 module _ (s : Site) (bs : List ℕ) (at : ℕ) (e : walk due blankSite bs at ≡ accepted s) where

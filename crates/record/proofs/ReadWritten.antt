@@ -12,8 +12,8 @@ use Rattle.site.specs.Check.{siteRule}
 use Rattle.site.specs.Values.{due, lengthPermitted, countRule, valueRule}
 use Rattle.site.proofs.FieldLaws.{site-passed}
 use Rattle.site.proofs.LengthLaws.{parts-permitted}
-use Rattle.record.specs.Bytes.{table}
-use Rattle.record.specs.Field.{blankSite, store, value}
+use Rattle.site.specs.Field.{table, fieldRule, store}
+use Rattle.record.specs.Field.{blankSite, value}
 use Rattle.record.specs.Reader.{walk, unless, accepted}
 use Rattle.record.specs.RoundTrip.{clean, Sized}
 use Rattle.record.specs.Writer.{encodeFields}
@@ -29,9 +29,9 @@ unfoldable storeAll : List ℕ → Site → Site → Site
 storeAll [] s x = x
 storeAll (t ∷ ts) s x = storeAll ts s (store t (value t s) x)
 
-record Good (t : ℕ) (s : Site) : Type 0 where
-  pub permitted : lengthPermitted t (length (value t s)) ≡ true
-  pub passes : (x : Site) → valueRule t (store t (value t s) x) ≡ Passed
+-- the value that s writes for the tag t passes rules 7 to 10
+abbrev Good : ℕ → Site → Type 0
+Good t s = (x : Site) → fieldRule t (value t s) x ≡ Passed
 
 walk-encode : (ts : List ℕ) (s x : Site) (at : ℕ) → All (λ t. Good t s) ts → walk ts x (encodeFields ts s) at ≡ accepted (storeAll ts s x)
 unfolding walk unless encodeFields storeAll
@@ -39,11 +39,12 @@ walk-encode [] s x at none = refl
 walk-encode (t ∷ ts) s x at (g ▸ gs) =
     let v = value t s in
     let rest = encodeFields ts s in
-    rw (head-field t v rest (g .permitted), field-value t v rest, g .passes x, field-rest t v rest) (walk-encode ts s (store t v x) _ gs)
+    rw (head-field t v rest, field-value t v rest, g x, field-rest t v rest) (walk-encode ts s (store t v x) _ gs)
 
 good : (t : ℕ) (s : Site) → lengthPermitted t (length (value t s)) ≡ true → ((x : Site) → valueRule t (store t (value t s) x) ≡ valueRule t s)
     → valueRule t s ≡ Passed → Good t s
-good t s p e v = record { permitted = p; passes = λ x. e x ∙ v }
+unfolding fieldRule
+good t s p e v x = rw p (e x ∙ v)
 
 quarter : (n : ℕ) → 4 * n / 4 ≡ n
 quarter n = omega arith

@@ -8,15 +8,16 @@ use lib.ListN.{length, getD, take}
 use Rattle.site.specs.declared.Site.{Site}
 use Rattle.site.specs.Values.{due, lengthPermitted}
 use Rattle.site.proofs.LengthLaws.{permitted-parts, one-item}
-use Rattle.record.specs.Bytes.{wordAt, wordBytes, valueAt, restAt, table, entryAt, entriesBytes}
-use Rattle.record.specs.Field.{blankSite, store, value}
+use Rattle.record.specs.Bytes.{wordBytes, valueAt, restAt, entriesBytes}
+use Rattle.site.specs.Field.{wordAt, table, entryAt, store}
+use Rattle.record.specs.Field.{blankSite, value}
 use Rattle.record.specs.Reader.{walk, fieldSite, accepted}
 use Rattle.record.specs.RoundTrip.{Bytes}
 use Rattle.record.specs.Writer.{encodeFields}
 use Rattle.record.proofs.TableLaws.{table-getD, take-table}
 use Rattle.record.proofs.EntryLaws.{no-length, entries-back}
 use Rattle.record.proofs.FieldBytes.{field-whole, value-bytes, rest-bytes}
-use Rattle.record.proofs.Parsed.{Parsed, parse, value-permitted}
+use Rattle.record.proofs.Parsed.{Parsed, parse}
 
 infixr 67 _▸_
 -- the values of s are those of the fields bs
@@ -28,7 +29,7 @@ encode-parsed : (ts : List ℕ) (x s : Site) (bs : List ℕ) → Bytes bs → Pa
 unfolding Parsed encodeFields
 encode-parsed [] x s bs b p none = sym (no-length bs (p .1))
 encode-parsed (t ∷ ts) x s bs b p (a ▸ more) =
-    rw (a, encode-parsed ts (fieldSite t bs x) s (restAt bs) (rest-bytes bs b) (p .2) more) (field-whole t bs b (p .0 .tag) (p .0 .inside))
+    rw (a, encode-parsed ts (fieldSite t bs x) s (restAt bs) (rest-bytes bs b) (p .3) more) (field-whole t bs b (p .0 .tag) (p .0 .inside))
 
 -- ---- what was stored is written
 
@@ -68,7 +69,7 @@ Fields (t ∷ ts) bs = (lengthPermitted t (length (valueAt bs)) ≡ true) × Byt
 fields : (ts : List ℕ) (x s : Site) (bs : List ℕ) → Bytes bs → Parsed ts x s bs → Fields ts bs
 unfolding Parsed Fields
 fields [] x s bs b p = tt
-fields (t ∷ ts) x s bs b p = (value-permitted t bs (p .0), value-bytes bs b, fields ts (fieldSite t bs x) s (restAt bs) (rest-bytes bs b) (p .2))
+fields (t ∷ ts) x s bs b p = (p .1, value-bytes bs b, fields ts (fieldSite t bs x) s (restAt bs) (rest-bytes bs b) (p .3))
 
 agrees : (s : Site) (bs : List ℕ) → Bytes bs → Parsed due blankSite s bs → Agrees s due bs
 unfolding Parsed Fields value store
@@ -88,7 +89,7 @@ agrees s bs b p =
     let f13 = f12 .2 in
     let f14 = f13 .2 in
     let f15 = f14 .2 in
-    subst (λ (y : Site). Agrees y due bs) (p .2 .2 .2 .2 .2 .2 .2 .2 .2 .2 .2 .2 .2 .2 .2 .0)
+    subst (λ (y : Site). Agrees y due bs) (p .3 .3 .3 .3 .3 .3 .3 .3 .3 .3 .3 .3 .3 .3 .3 .0)
     (name-kept _ (f1 .0)
     ▸ byte-kept _ (one-item 2 _ refl (f2 .0))
     ▸ bytes-kept _ (one-item 3 _ refl (f3 .0))

@@ -23,9 +23,10 @@ pub fn check_site(site: Site) -> Checked
     ensures answer { λ r. ⌜ r ≡ siteRule site ⌝ }
     ensures number { λ r. ⌜ checkedNumber r ≡ checkedNumber (siteRule site) ⌝ }
 {
+    let tags = DUE;
     let mut k: usize = 0;
     while k < 15 {
-        let tag = DUE[k];
+        let tag = tags[k];
         match check_field(site, tag) {
             Checked::Broken(rule) => {
                 return Checked::Broken(rule);

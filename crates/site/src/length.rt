@@ -1,30 +1,71 @@
 // Rule 7, for the bytes of a field and for a site value.
 ghost use mathlib.Core.Path.{_≡_};
-ghost use Prim.Native.Nat.{_≤_};
 ghost use lib.ListN.{getD};
-ghost use Rattle.site.specs.Values.{mostItems, lengthPermitted, itemCount, countRule};
+ghost use Rattle.site.specs.Values.{itemWidths, mostItems, lengthPermitted, itemCount, countRule};
 use crate::Checked;
 use crate::Rule;
 use crate::Site;
 use crate::numbers::wide;
 
-// By tag from 0: the bytes of an item, and how many items there may be.
-const ITEM_WIDTHS: [u8; 16] = [1, 1, 1, 2, 1, 1, 2, 4, 2, 1, 2, 2, 2, 2, 2, 4];
+// The bytes of an item.
+fn item_width(tag: u8) -> usize
+    ensures { λ r. ⌜ r ≡ getD itemWidths tag 1 ⌝ }
+{
+    match tag {
+        1 => 1,
+        2 => 1,
+        3 => 2,
+        4 => 1,
+        5 => 1,
+        6 => 2,
+        7 => 4,
+        8 => 2,
+        9 => 1,
+        10 => 2,
+        11 => 2,
+        12 => 2,
+        13 => 2,
+        14 => 2,
+        15 => 4,
+        _ => 1,
+    }
+}
 
-const MOST_ITEMS: [u8; 16] = [0, 8, 1, 1, 1, 1, 1, 4, 1, 1, 1, 1, 1, 1, 1, 1];
+// How many items there may be.
+fn most_items(tag: u8) -> usize
+    ensures { λ r. ⌜ r ≡ getD mostItems tag 0 ⌝ }
+{
+    match tag {
+        1 => 8,
+        2 => 1,
+        3 => 1,
+        4 => 1,
+        5 => 1,
+        6 => 1,
+        7 => 4,
+        8 => 1,
+        9 => 1,
+        10 => 1,
+        11 => 1,
+        12 => 1,
+        13 => 1,
+        14 => 1,
+        15 => 1,
+        _ => 0,
+    }
+}
 
 pub fn length_permitted(tag: u8, n: usize) -> bool
     ensures { λ r. ⌜ r ≡ lengthPermitted tag n ⌝ }
 {
-    let t = wide(tag);
-    if 16 <= t {
+    if 16 <= tag {
         return false;
     }
     if n < 1 {
         return false;
     }
-    let width = wide(ITEM_WIDTHS[t]);
-    if width * wide(MOST_ITEMS[t]) < n {
+    let width = item_width(tag);
+    if width * most_items(tag) < n {
         return false;
     }
     // most fields are one item, and need no division
@@ -32,16 +73,6 @@ pub fn length_permitted(tag: u8, n: usize) -> bool
         return true;
     }
     n % width == 0
-}
-
-fn most_items(tag: u8) -> usize
-    ensures { λ r. ⌜ r ≡ getD mostItems tag 0 ⌝ }
-{
-    let t = wide(tag);
-    if t < 16 {
-        return wide(MOST_ITEMS[t]);
-    }
-    0
 }
 
 fn item_count(site: Site, tag: u8) -> usize
