@@ -37,7 +37,7 @@ fn head_rule(rest: &[u8], tag: u8) -> Checked
     Checked::Broken(Rule::InnerTag)
 }
 
-// The part starts at `base` of the lent input.
+// The fields 01 to 0F of a record. The part starts at `base` of the lent input.
 pub fn read_fields(part: &[u8], base: usize) -> Read
     requires { ⌜ base + length (now part) < 2 ^ 64 ⌝ }
     ensures { λ r. ⌜ r ≡ walk due blankSite (now (part .entry)) base ⌝ }

@@ -7,7 +7,7 @@ use crate::Rule;
 use crate::Site;
 use crate::numbers::wide;
 
-// The bytes of an item.
+// By tag: the bytes of an item. A match and no constant array, which would be set up anew at each call.
 fn item_width(tag: u8) -> usize
     ensures { λ r. ⌜ r ≡ getD itemWidths tag 1 ⌝ }
 {
@@ -31,7 +31,7 @@ fn item_width(tag: u8) -> usize
     }
 }
 
-// How many items there may be.
+// By tag: how many items there may be.
 fn most_items(tag: u8) -> usize
     ensures { λ r. ⌜ r ≡ getD mostItems tag 0 ⌝ }
 {
