@@ -16,7 +16,7 @@ use Rattle.record.specs.declared.Written.{Written}
 use Rattle.record.specs.declared.Written.the-variants.{Wrote, Refused as NotWritten}
 use Rattle.record.specs.Outer.{readRecord}
 use Rattle.record.specs.Writer.{encode, writeRule, answerOf, bufferOf}
-use Rattle.record.proofs.Place.{accepted-is}
+use Rattle.record.proofs.Parsed.{accepted-is}
 use Rattle.record.proofs.RoundTrip.{read-passes}
 use Rattle.exports.specs.Results.{refusalCode, roomRule, codeIf, rewriteCode, rewriteHeld}
 

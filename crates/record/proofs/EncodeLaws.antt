@@ -16,7 +16,7 @@ use Rattle.record.specs.Field.{value}
 use Rattle.record.specs.RoundTrip.{Sized}
 use Rattle.record.specs.Writer.{encodeFields, encode, put}
 use Rattle.record.proofs.PutLaws.{put-put, put-zero, field-put}
-use Rattle.record.proofs.ValueLaws.{name-long, bytes-long}
+use Rattle.record.proofs.ValueLaws.{name-counts, name-long, stand-counts, bytes-long}
 
 abbrev fieldAt : List ℕ → ℕ → Site → List ℕ
 fieldAt ds k s = fieldOf (getD ds k 0) (value (getD ds k 0) s)
@@ -51,8 +51,15 @@ fields-length : (s : Site) → length (encodeFields due s)
 unfolding encodeFields value fieldOf
 fields-length s = simp length-append (omega arith)
 
-pub record-length : (s : Site) → Sized s → siteRule s ≡ Passed → length (encode s) ≡ 3 + (69 + s .«name_len» + 4 * s .entries)
-record-length s z e =
-    let n = name-long s z (site-passed s e 0 (omega arith) .0) in
-    let b = bytes-long s z (site-passed s e 6 (omega arith) .0) in
-    omega (arith, length-encode s, fields-length s)
+module _ (s : Site) (z : Sized s) (e : siteRule s ≡ Passed) where
+  pub record-length : length (encode s) ≡ 3 + (69 + s .«name_len» + 4 * s .entries)
+  record-length =
+      let n = name-long s z (site-passed s e 0 (omega arith) .0) in
+      let b = bytes-long s z (site-passed s e 6 (omega arith) .0) in
+      omega (arith, length-encode s, fields-length s)
+
+  pub fields-small : length (encodeFields due s) ≤ 255
+  fields-small =
+      let n = name-counts s z (site-passed s e 0 (omega arith) .0) in
+      let b = stand-counts s z (site-passed s e 6 (omega arith) .0) in
+      omega (arith, length-encode s, record-length)

@@ -8,7 +8,8 @@ use lib.ListN.{length, getD, take, List·getD-eq-default}
 use lib.Seq.{getD-drop}
 use Rattle.site.specs.declared.Entry.{Entry}
 use Rattle.site.specs.Bounds.{noEntry}
-use Rattle.record.specs.Bytes.{wordOf, table, entryAt, entriesBytes}
+use Rattle.record.specs.Bytes.{entriesBytes}
+use Rattle.site.specs.Field.{wordOf, table, entryAt}
 use Rattle.record.specs.RoundTrip.{Bytes}
 use Rattle.record.proofs.TableLaws.{table-cong}
 

@@ -5,9 +5,10 @@ use Prim.Native.Nat.{ℕ}
 use Rattle.site.specs.declared.Site.{Site}
 use Rattle.site.specs.declared.Entry.{Entry}
 use Rattle.site.specs.Bounds.{noEntry}
+use Rattle.site.specs.Field.{fieldRule, table, entryAt, store}
 use Rattle.site.specs.Values.{lengthPermitted, valueRule, standRule, between, nameByte, allOf, entryRanged, risingFrom, sharesOf}
-use Rattle.record.specs.Bytes.{fieldOf, table, entryAt, entriesBytes}
-use Rattle.record.specs.Field.{blankSite, store, value}
+use Rattle.record.specs.Bytes.{fieldOf, entriesBytes}
+use Rattle.record.specs.Field.{blankSite, value}
 use Rattle.record.specs.Reader.{refusedAt, accepted, headRule, unless, walk}
 use Rattle.record.specs.Outer.{outerRule, nextOf, found, recordIn, recordAt, alone, onlyOne, readRecord}
 use Rattle.record.specs.Writer.{encodeFields, encode}
@@ -59,7 +60,7 @@ siteA1 = record {
 }
 
 pub a1-read : readRecord bytesA1 ≡ accepted siteA1
-unfolding readRecord onlyOne alone recordAt recordIn found nextOf outerRule headRule unless walk refusedAt accepted lengthPermitted table entryAt store valueRule standRule between nameByte allOf entryRanged risingFrom sharesOf blankSite
+unfolding readRecord onlyOne alone recordAt recordIn found nextOf outerRule headRule unless walk fieldRule refusedAt accepted lengthPermitted table entryAt store valueRule standRule between nameByte allOf entryRanged risingFrom sharesOf blankSite
 a1-read = refl
 
 pub a1-written : encode siteA1 ≡ bytesA1

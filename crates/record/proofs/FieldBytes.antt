@@ -2,42 +2,55 @@
 use mathlib.Core.Path.{_≡_, refl, sym, ap, _∙_}
 use mathlib.Core.Logic.{⊎-elim}
 use mathlib.Core.Bool.{true}
-use mathlib.Core.List.{List, [], _∷_, _++_}
+use mathlib.Core.List.{List, _∷_, _++_}
 use Prim.Native.Nat.{ℕ, _+_, _/_, _%_, _≤_, _<_}
 use native.Mathlib.Omega.{arith}
 use lib.Dec.{eqb}
 use lib.ListN.{length, getD, take, drop, length-append, length-take, length-drop, take-append-drop, List·getD-eq-default}
-use lib.Seq.{drop-cons, take-at, drop-at, drop-drop, getD-drop, getD-take}
+use lib.Seq.{drop-cons, take-all, take-at, drop-at, drop-drop, getD-drop, getD-take}
 use borrow.Author.Tests.{eq-eqb}
 use Rattle.site.proofs.Tests.{le-or-lt}
 use Rattle.record.specs.Bytes.{fieldOf, statedLen, valueAt, restAt}
 use Rattle.record.specs.RoundTrip.{Bytes}
 use Rattle.record.proofs.EntryLaws.{word-back}
 
--- a field at the front of bytes
-module _ (t : ℕ) (v rest : List ℕ) where
-  pub stated : statedLen (fieldOf t v ++ rest) ≡ length v
+-- a field
+module _ (t : ℕ) (v : List ℕ) where
+  pub stated-whole : statedLen (fieldOf t v) ≡ length v
   unfolding fieldOf
-  stated = word-back (length v)
+  stated-whole = word-back (length v)
 
-  pub field-length : length (fieldOf t v ++ rest) ≡ 3 + (length v + length rest)
+  pub length-whole : length (fieldOf t v) ≡ 3 + length v
   unfolding fieldOf
-  field-length = simp length-append (omega arith)
+  length-whole = omega arith
 
-  pub field-tag : eqb (getD (fieldOf t v ++ rest) 0 0) t ≡ true
+  pub tag-whole : eqb (getD (fieldOf t v) 0 0) t ≡ true
   unfolding fieldOf
-  field-tag = eq-eqb t t refl
+  tag-whole = eq-eqb t t refl
 
-  head-length : length (fieldOf t v) ≡ 3 + length v
+  pub value-whole : valueAt (fieldOf t v) ≡ v
   unfolding fieldOf
-  head-length = omega arith
+  value-whole = rw stated-whole (take-all (length v) v (omega arith))
 
-  pub field-value : valueAt (fieldOf t v ++ rest) ≡ v
-  unfolding fieldOf
-  field-value = rw stated (take-at v rest (length v) refl)
+  -- and bytes that follow it
+  module _ (rest : List ℕ) where
+    pub stated : statedLen (fieldOf t v ++ rest) ≡ length v
+    unfolding fieldOf
+    stated = stated-whole
 
-  pub field-rest : restAt (fieldOf t v ++ rest) ≡ rest
-  field-rest = rw stated (drop-at (fieldOf t v) rest (3 + length v) head-length)
+    pub field-length : length (fieldOf t v ++ rest) ≡ 3 + (length v + length rest)
+    field-length = simp length-append (omega (arith, length-whole))
+
+    pub field-tag : eqb (getD (fieldOf t v ++ rest) 0 0) t ≡ true
+    unfolding fieldOf
+    field-tag = tag-whole
+
+    pub field-value : valueAt (fieldOf t v ++ rest) ≡ v
+    unfolding fieldOf
+    field-value = rw stated (take-at v rest (length v) refl)
+
+    pub field-rest : restAt (fieldOf t v ++ rest) ≡ rest
+    field-rest = rw stated (drop-at (fieldOf t v) rest (3 + length v) length-whole)
 
 three : (bs : List ℕ) → 3 ≤ length bs → bs ≡ getD bs 0 0 ∷ getD bs 1 0 ∷ getD bs 2 0 ∷ drop 3 bs
 three bs h =
@@ -75,5 +88,5 @@ module _ (t : ℕ) (bs : List ℕ) (b : Bytes bs) (tag : getD bs 0 0 ≡ t) (ins
   pub field-front : fieldOf t (valueAt bs) ≡ take (3 + statedLen bs) bs
   field-front =
       let l : length (valueAt bs) ≡ statedLen bs = simp (length-take, length-drop) (omega arith) in
-      let k : length (fieldOf t (valueAt bs)) ≡ 3 + statedLen bs = head-length t (valueAt bs) [] ∙ ap (λ (n : ℕ). 3 + n) l in
+      let k : length (fieldOf t (valueAt bs)) ≡ 3 + statedLen bs = length-whole t (valueAt bs) ∙ ap (λ (n : ℕ). 3 + n) l in
       sym (rw field-whole at (take-at (fieldOf t (valueAt bs)) (restAt bs) (3 + statedLen bs) k))

@@ -1,3 +1,4 @@
+pub mod All
 pub mod TableLaws
 pub mod EntryLaws
 pub mod FieldBytes

@@ -16,7 +16,8 @@ use Rattle.site.specs.declared.Rule.the-variants.{OuterCut, OuterTag}
 use Rattle.site.specs.declared.Checked.{Checked}
 use Rattle.site.specs.declared.Checked.the-variants.{Passed, Broken}
 use Rattle.site.specs.Choice.{pick}
-use Rattle.site.specs.Values.{due, valueRule}
+use Rattle.site.specs.Values.{due}
+use Rattle.site.specs.Field.{fieldRule}
 use Rattle.site.proofs.Tests.{le-or-lt}
 use Rattle.record.specs.declared.Read.{Read}
 use Rattle.record.specs.declared.Found.{Found}
@@ -26,6 +27,7 @@ use Rattle.record.specs.Bytes.{statedLen, valueAt, restAt}
 use Rattle.record.specs.Field.{blankSite}
 use Rattle.record.specs.Reader.{headRule, walk, unless, fieldSite, refusedAt, accepted}
 use Rattle.record.specs.Outer.{outerRule, nextOf, found, recordIn, recordAt}
+use Rattle.record.proofs.Parsed.{readOf}
 
 -- ---- what stands past 258 bytes
 
@@ -107,11 +109,8 @@ walk-moved : (d : ℕ) (ts : List ℕ) (s : Site) (bs : List ℕ) (at : ℕ) →
 unfolding walk
 walk-moved d [] s bs at = end-moved d (eqb (length bs) 0) s at _
 walk-moved d (t ∷ ts) s bs at =
-    rw (add-assoc d at (3 + statedLen bs), walk-moved d ts (fieldSite t bs s) (restAt bs) (at + (3 + statedLen bs)), unless-moved d (valueRule t (fieldSite t bs s)) at)
+    rw (add-assoc d at (3 + statedLen bs), walk-moved d ts (fieldSite t bs s) (restAt bs) (at + (3 + statedLen bs)), unless-moved d (fieldRule t (valueAt bs) s) at)
     (unless-moved d (headRule t bs) at _)
-
-abbrev readOf : Outcome → Site → Read
-readOf o s = record { outcome = o; site = s }
 
 found-moved : (d : ℕ) (r : Read) (at end : ℕ) → found (movedRead d r) (d + at) (d + end) ≡ moved d (found r at end)
 unfolding found nextOf movedRead moved movedOutcome

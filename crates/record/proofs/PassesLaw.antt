@@ -12,45 +12,38 @@ use Rattle.site.specs.Check.{fieldsRule, siteRule}
 use Rattle.site.specs.Refusal.{andThen}
 use Rattle.site.specs.Values.{due, lengthPermitted, itemCount, countRule, valueRule}
 use Rattle.site.proofs.LengthLaws.{permitted-parts, parts-counted}
-use Rattle.record.specs.Bytes.{table, entryAt}
-use Rattle.record.specs.Field.{blankSite, store}
+use Rattle.site.specs.Field.{table, entryAt, store}
+use Rattle.record.specs.Field.{blankSite}
 use Rattle.record.specs.Reader.{walk, accepted}
 use Rattle.record.specs.RoundTrip.{clean, Sized}
+use Rattle.record.proofs.All.{All, none, _▸_}
 use Rattle.record.proofs.TableLaws.{length-table, table-clean}
 use Rattle.record.proofs.EntryLaws.{entry-past}
-use Rattle.record.proofs.Parsed.{Parsed, parse, value-permitted}
+use Rattle.record.proofs.Parsed.{Parsed, parse}
 
-unfoldable Ruled : List ℕ → Site → Type 0
-Ruled [] s = Unit
-Ruled (t ∷ ts) s = (valueRule t s ≡ Passed) × Ruled ts s
-
-unfoldable Counted : List ℕ → Site → Type 0
-Counted [] s = Unit
-Counted (t ∷ ts) s = (countRule t s ≡ Passed) × Counted ts s
-
-fields-passed : (ts : List ℕ) (s : Site) → Counted ts s → Ruled ts s → fieldsRule ts s ≡ Passed
-unfolding Counted Ruled fieldsRule andThen
-fields-passed [] s c r = refl
-fields-passed (t ∷ ts) s c r = rw (c .0, r .0) (fields-passed ts s (c .1) (r .1))
+fields-passed : (ts : List ℕ) (s : Site) → All (λ t. countRule t s ≡ Passed) ts → All (λ t. valueRule t s ≡ Passed) ts → fieldsRule ts s ≡ Passed
+unfolding fieldsRule andThen
+fields-passed [] s none none = refl
+fields-passed (t ∷ ts) s (c ▸ cs) (r ▸ rs) = rw (c, r) (fields-passed ts s cs rs)
 
 -- every field but the name and the stand is one item
-counted : (s : Site) → countRule 1 s ≡ Passed → countRule 7 s ≡ Passed → Counted due s
-unfolding Counted countRule itemCount
-counted s name stand = (name, (refl, (refl, (refl, (refl, (refl, (stand, (refl, (refl, (refl, (refl, (refl, (refl, (refl, (refl, tt)))))))))))))))
+counted : (s : Site) → countRule 1 s ≡ Passed → countRule 7 s ≡ Passed → All (λ t. countRule t s ≡ Passed) due
+unfolding countRule itemCount
+counted s name stand = name ▸ refl ▸ refl ▸ refl ▸ refl ▸ refl ▸ stand ▸ refl ▸ refl ▸ refl ▸ refl ▸ refl ▸ refl ▸ refl ▸ refl ▸ none
 
 -- what reading leaves in a site
-record Left (s : Site) : Type 0 where
-  pub rules : Ruled due s
+record AsRead (s : Site) : Type 0 where
+  pub rules : All (λ t. valueRule t s ≡ Passed) due
   pub name : (1 ≤ s .«name_len») × (s .«name_len» ≤ 8)
   pub stand : (1 ≤ s .entries) × (s .entries ≤ 4)
   pub sized : Sized s
   pub cleaned : clean s ≡ s
 
-name-counts : (n : ℕ) → lengthPermitted 1 n ≡ true → (1 ≤ n) × (n ≤ 8)
-name-counts n p = let q = permitted-parts 1 n p in (omega arith, omega arith)
+name-permitted : (n : ℕ) → lengthPermitted 1 n ≡ true → (1 ≤ n) × (n ≤ 8)
+name-permitted n p = let q = permitted-parts 1 n p in (omega arith, omega arith)
 
-stand-counts : (n : ℕ) → lengthPermitted 7 n ≡ true → (1 ≤ n / 4) × (n / 4 ≤ 4)
-stand-counts n p = let q = permitted-parts 7 n p in (omega arith, omega arith)
+stand-permitted : (n : ℕ) → lengthPermitted 7 n ≡ true → (1 ≤ n / 4) × (n / 4 ≤ 4)
+stand-permitted n p = let q = permitted-parts 7 n p in (omega arith, omega arith)
 
 name-clean : (v : List ℕ) → take 8 (take (length v) (table 8 (λ i. getD v i 0)) ++ replicate 8 0) ≡ table 8 (λ i. getD v i 0)
 name-clean v = table-clean 8 (length v) 8 (λ i. getD v i 0) 0 (omega arith) (λ i h. List·getD-eq-default v 0 {n = i} h)
@@ -61,41 +54,41 @@ stand-clean v p =
     let q = permitted-parts 7 (length v) p in
     table-clean 4 (length v / 4) 4 (λ i. entryAt v (4 * i)) noEntry (omega arith) (λ i h. entry-past v (4 * i) (omega arith))
 
-left : (s : Site) (bs : List ℕ) (at : ℕ) → walk due blankSite bs at ≡ accepted s → Left s
-unfolding Parsed Ruled valueRule store clean
-left s bs at e =
+as-read : (s : Site) (bs : List ℕ) (at : ℕ) → walk due blankSite bs at ≡ accepted s → AsRead s
+unfolding Parsed valueRule store clean
+as-read s bs at e =
     let p1 = parse due blankSite s bs at e in
-    let p2 = p1 .2 in
-    let p3 = p2 .2 in
-    let p4 = p3 .2 in
-    let p5 = p4 .2 in
-    let p6 = p5 .2 in
-    let p7 = p6 .2 in
-    let p8 = p7 .2 in
-    let p9 = p8 .2 in
-    let p10 = p9 .2 in
-    let p11 = p10 .2 in
-    let p12 = p11 .2 in
-    let p13 = p12 .2 in
-    let p14 = p13 .2 in
-    let p15 = p14 .2 in
-    subst Left (p15 .2 .0) record {
-      rules = (p1 .1, (p2 .1, (p3 .1, (p4 .1, (p5 .1, (p6 .1, (p7 .1, (p8 .1, (p9 .1, (p10 .1, (p11 .1, (p12 .1, (p13 .1, (p14 .1, (p15 .1, tt)))))))))))))));
-      name = name-counts _ (value-permitted 1 _ (p1 .0));
-      stand = stand-counts _ (value-permitted 7 _ (p7 .0));
+    let p2 = p1 .3 in
+    let p3 = p2 .3 in
+    let p4 = p3 .3 in
+    let p5 = p4 .3 in
+    let p6 = p5 .3 in
+    let p7 = p6 .3 in
+    let p8 = p7 .3 in
+    let p9 = p8 .3 in
+    let p10 = p9 .3 in
+    let p11 = p10 .3 in
+    let p12 = p11 .3 in
+    let p13 = p12 .3 in
+    let p14 = p13 .3 in
+    let p15 = p14 .3 in
+    subst AsRead (p15 .3 .0) record {
+      rules = p1 .2 ▸ p2 .2 ▸ p3 .2 ▸ p4 .2 ▸ p5 .2 ▸ p6 .2 ▸ p7 .2 ▸ p8 .2 ▸ p9 .2 ▸ p10 .2 ▸ p11 .2 ▸ p12 .2 ▸ p13 .2 ▸ p14 .2 ▸ p15 .2 ▸ none;
+      name = name-permitted _ (p1 .1);
+      stand = stand-permitted _ (p7 .1);
       sized = record { name = length-table 8 _; stand = length-table 4 _ };
-      cleaned = rw (name-clean _, stand-clean _ (value-permitted 7 _ (p7 .0)));
+      cleaned = rw (name-clean _, stand-clean _ (p7 .1));
     }
 
 module _ (s : Site) (bs : List ℕ) (at : ℕ) (e : walk due blankSite bs at ≡ accepted s) where
   pub walked-passes : siteRule s ≡ Passed
   unfolding siteRule itemCount
   walked-passes =
-      let l = left s bs at e in
+      let l = as-read s bs at e in
       fields-passed due s (counted s (parts-counted 1 s (l .name .0) (l .name .1)) (parts-counted 7 s (l .stand .0) (l .stand .1))) (l .rules)
 
   pub walked-sized : Sized s
-  walked-sized = left s bs at e .sized
+  walked-sized = as-read s bs at e .sized
 
   pub walked-clean : clean s ≡ s
-  walked-clean = left s bs at e .cleaned
+  walked-clean = as-read s bs at e .cleaned

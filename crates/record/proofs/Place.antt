@@ -1,15 +1,13 @@
 -- What an accepted record of a file says.
-use mathlib.Core.Path.{_≡_, ap}
+use mathlib.Core.Path.{_≡_}
 use mathlib.Core.List.{List}
 use Prim.Native.Nat.{ℕ, _+_, _-_, _≤_}
 use native.Mathlib.Omega.{arith}
 use lib.ListN.{length, take, drop, length-drop}
 use lib.Seq.{getD-drop}
-use Rattle.site.specs.declared.Site.{Site}
 use Rattle.site.specs.declared.Checked.the-variants.{Passed}
 use Rattle.site.specs.Check.{siteRule}
 use Rattle.site.specs.Values.{due}
-use Rattle.record.specs.declared.Read.{Read}
 use Rattle.record.specs.declared.Found.{Found}
 use Rattle.record.specs.declared.Outcome.{Outcome}
 use Rattle.record.specs.declared.Outcome.the-variants.{Accepted}
@@ -21,18 +19,9 @@ use Rattle.record.specs.RoundTrip.{clean, Sized, Bytes}
 use Rattle.record.specs.Writer.{encodeFields, encode}
 use Rattle.record.proofs.FieldBytes.{value-bytes, field-front}
 use Rattle.record.proofs.OuterLaws.{OuterOk, outer-passed}
-use Rattle.record.proofs.Parsed.{unless-accepted}
+use Rattle.record.proofs.Parsed.{accepted-is, unless-accepted}
 use Rattle.record.proofs.WrittenRead.{encode-read}
 use Rattle.record.proofs.PassesLaw.{walked-passes, walked-sized, walked-clean}
-
--- ---- an accepted record
-
-abbrev readOf : Outcome → Site → Read
-readOf o s = record { outcome = o; site = s }
-
-pub accepted-is : (r : Read) → r .outcome ≡ Accepted → r ≡ accepted (r .site)
-unfolding accepted
-accepted-is r e = ap (λ (o : Outcome). readOf o (r .site)) e
 
 next-of : (o : Outcome) (at end : ℕ) → o ≡ Accepted → nextOf o at end ≡ end
 unfolding nextOf

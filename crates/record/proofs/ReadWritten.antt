@@ -12,11 +12,12 @@ use Rattle.site.specs.Check.{siteRule}
 use Rattle.site.specs.Values.{due, lengthPermitted, countRule, valueRule}
 use Rattle.site.proofs.FieldLaws.{site-passed}
 use Rattle.site.proofs.LengthLaws.{parts-permitted}
-use Rattle.record.specs.Bytes.{table}
-use Rattle.record.specs.Field.{blankSite, store, value}
+use Rattle.site.specs.Field.{table, fieldRule, store}
+use Rattle.record.specs.Field.{blankSite, value}
 use Rattle.record.specs.Reader.{walk, unless, accepted}
 use Rattle.record.specs.RoundTrip.{clean, Sized}
 use Rattle.record.specs.Writer.{encodeFields}
+use Rattle.record.proofs.All.{All, none, _▸_}
 use Rattle.record.proofs.TableLaws.{take-table, table-pad}
 use Rattle.record.proofs.EntryLaws.{word-back, stand-back}
 use Rattle.record.proofs.FieldBytes.{field-value, field-rest}
@@ -28,25 +29,22 @@ unfoldable storeAll : List ℕ → Site → Site → Site
 storeAll [] s x = x
 storeAll (t ∷ ts) s x = storeAll ts s (store t (value t s) x)
 
-record Good (t : ℕ) (s : Site) : Type 0 where
-  pub permitted : lengthPermitted t (length (value t s)) ≡ true
-  pub passes : (x : Site) → valueRule t (store t (value t s) x) ≡ Passed
+-- the value that s writes for the tag t passes rules 7 to 10
+abbrev Good : ℕ → Site → Type 0
+Good t s = (x : Site) → fieldRule t (value t s) x ≡ Passed
 
-unfoldable AllGood : List ℕ → Site → Type 0
-AllGood [] s = Unit
-AllGood (t ∷ ts) s = Good t s × AllGood ts s
-
-walk-encode : (ts : List ℕ) (s x : Site) (at : ℕ) → AllGood ts s → walk ts x (encodeFields ts s) at ≡ accepted (storeAll ts s x)
-unfolding walk unless AllGood encodeFields storeAll
-walk-encode [] s x at g = refl
-walk-encode (t ∷ ts) s x at g =
+walk-encode : (ts : List ℕ) (s x : Site) (at : ℕ) → All (λ t. Good t s) ts → walk ts x (encodeFields ts s) at ≡ accepted (storeAll ts s x)
+unfolding walk unless encodeFields storeAll
+walk-encode [] s x at none = refl
+walk-encode (t ∷ ts) s x at (g ▸ gs) =
     let v = value t s in
     let rest = encodeFields ts s in
-    rw (head-field t v rest (g .0 .permitted), field-value t v rest, g .0 .passes x, field-rest t v rest) (walk-encode ts s (store t v x) _ (g .1))
+    rw (head-field t v rest, field-value t v rest, g x, field-rest t v rest) (walk-encode ts s (store t v x) _ gs)
 
 good : (t : ℕ) (s : Site) → lengthPermitted t (length (value t s)) ≡ true → ((x : Site) → valueRule t (store t (value t s) x) ≡ valueRule t s)
     → valueRule t s ≡ Passed → Good t s
-good t s p e v = record { permitted = p; passes = λ x. e x ∙ v }
+unfolding fieldRule
+good t s p e v x = rw p (e x ∙ v)
 
 quarter : (n : ℕ) → 4 * n / 4 ≡ n
 quarter n = omega arith
@@ -76,61 +74,35 @@ module _ (s : Site) (z : Sized s) where
     passed : (k : ℕ) → k < 15 → valueRule (getD due k 0) s ≡ Passed
     passed k h = site-passed s e k h .1
 
-    all-good : AllGood due s
-    unfolding AllGood lengthPermitted value valueRule store
-    all-good = (
-      good-name (site-passed s e 0 (omega arith) .0) (passed 0 (omega arith)),
-      (
-        good 2 s refl (λ x. refl) (passed 1 (omega arith)),
-        (
-          good 3 s refl (λ x. refl) (passed 2 (omega arith)),
-          (
-            good 4 s refl (λ x. refl) (passed 3 (omega arith)),
-            (
-              good 5 s refl (λ x. refl) (passed 4 (omega arith)),
-              (
-                good 6 s refl (λ x. rw (word-back (s .percolation))) (passed 5 (omega arith)),
-                (
-                  good-stand (site-passed s e 6 (omega arith) .0) (passed 6 (omega arith)),
-                  (
-                    good 8 s refl (λ x. rw (word-back (s .immobilisation))) (passed 7 (omega arith)),
-                    (
-                      good 9 s refl (λ x. refl) (passed 8 (omega arith)),
-                      (
-                        good 10 s refl (λ x. rw (word-back (s .«base_deposition»))) (passed 9 (omega arith)),
-                        (
-                          good 11 s refl (λ x. rw (word-back (s .ratio))) (passed 10 (omega arith)),
-                          (
-                            good 12 s refl (λ x. rw (word-back (s .gibbsite))) (passed 11 (omega arith)),
-                            (
-                              good 13 s refl (λ x. rw (word-back (s .ceiling))) (passed 12 (omega arith)),
-                              (
-                                good 14 s refl (λ x. rw (word-back (s .leachate))) (passed 13 (omega arith)),
-                                (
-                                  good 15 s refl (λ x. refl) (passed 14 (omega arith)),
-                                  tt,
-                                ),
-                              ),
-                            ),
-                          ),
-                        ),
-                      ),
-                    ),
-                  ),
-                ),
-              ),
-            ),
-          ),
-        ),
-      ),
-    )
+    counts : (k : ℕ) → k < 15 → countRule (getD due k 0) s ≡ Passed
+    counts k h = site-passed s e k h .0
+
+    all-good : All (λ t. Good t s) due
+    unfolding lengthPermitted value valueRule store
+    all-good =
+        good-name (counts 0 (omega arith)) (passed 0 (omega arith))
+        ▸ good 2 s refl (λ x. refl) (passed 1 (omega arith))
+        ▸ good 3 s refl (λ x. refl) (passed 2 (omega arith))
+        ▸ good 4 s refl (λ x. refl) (passed 3 (omega arith))
+        ▸ good 5 s refl (λ x. refl) (passed 4 (omega arith))
+        ▸ good 6 s refl (λ x. rw (word-back (s .percolation))) (passed 5 (omega arith))
+        ▸ good-stand (counts 6 (omega arith)) (passed 6 (omega arith))
+        ▸ good 8 s refl (λ x. rw (word-back (s .immobilisation))) (passed 7 (omega arith))
+        ▸ good 9 s refl (λ x. refl) (passed 8 (omega arith))
+        ▸ good 10 s refl (λ x. rw (word-back (s .«base_deposition»))) (passed 9 (omega arith))
+        ▸ good 11 s refl (λ x. rw (word-back (s .ratio))) (passed 10 (omega arith))
+        ▸ good 12 s refl (λ x. rw (word-back (s .gibbsite))) (passed 11 (omega arith))
+        ▸ good 13 s refl (λ x. rw (word-back (s .ceiling))) (passed 12 (omega arith))
+        ▸ good 14 s refl (λ x. rw (word-back (s .leachate))) (passed 13 (omega arith))
+        ▸ good 15 s refl (λ x. refl) (passed 14 (omega arith))
+        ▸ none
 
     stored-is-clean : storeAll due s blankSite ≡ clean s
     unfolding storeAll store value clean
     stored-is-clean =
         let name = take (s .«name_len») (s .name) in
         let es = take (s .entries) (s .stand) in
-        rw (table-pad 8 8 name 0 (omega arith), name-long s z (site-passed s e 0 (omega arith) .0), stand-back 4 es, table-pad 4 4 es noEntry (omega arith), bytes-long s z (site-passed s e 6 (omega arith) .0), quarter, word-back (s .percolation), word-back (s .immobilisation), word-back (s .«base_deposition»), word-back (s .ratio), word-back (s .gibbsite), word-back (s .ceiling), word-back (s .leachate), word-back (s .sulphur), word-back (s .nitrogen))
+        rw (table-pad 8 8 name 0 (omega arith), name-long s z (counts 0 (omega arith)), stand-back 4 es, table-pad 4 4 es noEntry (omega arith), bytes-long s z (counts 6 (omega arith)), quarter, word-back (s .percolation), word-back (s .immobilisation), word-back (s .«base_deposition»), word-back (s .ratio), word-back (s .gibbsite), word-back (s .ceiling), word-back (s .leachate), word-back (s .sulphur), word-back (s .nitrogen))
 
     pub read-encode : (at : ℕ) → walk due blankSite (encodeFields due s) at ≡ accepted (clean s)
     read-encode at = walk-encode due s blankSite at all-good ∙ ap accepted stored-is-clean

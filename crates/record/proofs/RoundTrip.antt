@@ -1,11 +1,11 @@
 -- Reading and writing undo each other.
 use mathlib.Core.Path.{_≡_, refl, sym, ap, _∙_}
 use mathlib.Core.Bool.{Bool, true, false}
-use mathlib.Core.List.{List, [], _++_, append-nil}
+use mathlib.Core.List.{List}
 use Prim.Native.Nat.{ℕ, _+_, _-_, _≤_}
 use native.Mathlib.Omega.{arith}
 use lib.Dec.{eqb}
-use lib.ListN.{length, getD, take}
+use lib.ListN.{length, take}
 use lib.Seq.{take-all}
 use borrow.Author.Tests.{eqb-true, eq-eqb, ne-eqb, le-ltb}
 use Rattle.site.specs.declared.Site.{Site}
@@ -14,21 +14,19 @@ use Rattle.site.specs.declared.Checked.the-variants.{Passed}
 use Rattle.site.specs.Check.{siteRule}
 use Rattle.site.specs.Choice.{pick}
 use Rattle.site.specs.Values.{due}
-use Rattle.site.proofs.FieldLaws.{site-passed}
 use Rattle.record.specs.declared.Read.{Read}
 use Rattle.record.specs.declared.Outcome.{Outcome}
 use Rattle.record.specs.declared.Outcome.the-variants.{Accepted, Refused}
-use Rattle.record.specs.Bytes.{statedLen, valueAt, fieldOf}
+use Rattle.record.specs.Bytes.{statedLen, fieldOf}
 use Rattle.record.specs.Reader.{unless, refusedAt, accepted}
 use Rattle.record.specs.Outer.{outcomeNumbers, outerRule, nextOf, found, recordIn, recordAt, alone, onlyOne, readRecord}
 use Rattle.record.specs.RoundTrip.{clean, Sized, Bytes}
 use Rattle.record.specs.Writer.{encodeFields, encode}
-use Rattle.record.proofs.EncodeLaws.{record-length, length-encode}
-use Rattle.record.proofs.FieldBytes.{stated, field-length, field-tag, field-value}
-use Rattle.record.proofs.Parsed.{not-refused}
-use Rattle.record.proofs.Place.{accepted-is, record-passes, record-sized, record-clean, record-bytes}
+use Rattle.record.proofs.EncodeLaws.{fields-small}
+use Rattle.record.proofs.FieldBytes.{stated-whole, length-whole, tag-whole, value-whole}
+use Rattle.record.proofs.Parsed.{not-refused, accepted-is, accepted-same}
+use Rattle.record.proofs.Place.{record-passes, record-sized, record-clean, record-bytes}
 use Rattle.record.proofs.ReadWritten.{read-encode}
-use Rattle.record.proofs.ValueLaws.{name-counts, stand-counts}
 
 -- ---- what is written is read
 
@@ -36,11 +34,9 @@ outer-field : (v : List ℕ) → length v ≤ 255 → outerRule (fieldOf 82 v) �
 unfolding outerRule
 outer-field v k =
     let bs = fieldOf 82 v in
-    let e : bs ++ [] ≡ bs = append-nil bs in
-    let n : statedLen bs ≡ length v = rw e at (stated 82 v []) in
-    let l : length bs ≡ 3 + length v = rw e at (field-length 82 v []) ∙ omega arith in
-    let f : eqb (getD bs 0 0) 82 ≡ true = rw e at (field-tag 82 v []) in
-    rw (le-ltb (length bs) 3 (omega arith), f, le-ltb 255 (statedLen bs) (omega arith), le-ltb (length bs - 3) (statedLen bs) (omega arith))
+    let n : statedLen bs ≡ length v = stated-whole 82 v in
+    let l : length bs ≡ 3 + length v = length-whole 82 v in
+    rw (le-ltb (length bs) 3 (omega arith), tag-whole 82 v, le-ltb 255 (statedLen bs) (omega arith), le-ltb (length bs - 3) (statedLen bs) (omega arith))
 
 -- a site that passes is read again from its record, with zeros past its name and its entries
 pub read-written : (s : Site) → Sized s → siteRule s ≡ Passed → readRecord (encode s) ≡ accepted (clean s)
@@ -48,27 +44,17 @@ unfolding readRecord onlyOne alone recordAt recordIn found nextOf unless accepte
 read-written s z e =
     let v = encodeFields due s in
     let bs = fieldOf 82 v in
-    let c1 = name-counts s z (site-passed s e 0 (omega arith) .0) in
-    let c7 = stand-counts s z (site-passed s e 6 (omega arith) .0) in
-    let m = record-length s z e in
-    let k : length v ≤ 255 = omega (arith, length-encode s) in
-    let q : bs ++ [] ≡ bs = append-nil bs in
-    let n : statedLen bs ≡ length v = rw q at (stated 82 v []) in
-    let l : length bs ≡ 3 + length v = rw q at (field-length 82 v []) ∙ omega arith in
-    let w : valueAt bs ≡ v = rw q at (field-value 82 v []) in
+    let n : statedLen bs ≡ length v = stated-whole 82 v in
+    let l : length bs ≡ 3 + length v = length-whole 82 v in
     let some : length bs ≡ 0 → ⊥ = λ q. omega arith in
     let end : 0 + 3 + statedLen bs ≡ length bs = omega arith in
-    rw (ne-eqb _ _ some, outer-field v k, w, read-encode s z e 3, eq-eqb _ _ end)
+    rw (ne-eqb _ _ some, outer-field v (fields-small s z e), value-whole 82 v, read-encode s z e 3, eq-eqb _ _ end)
 
 -- ---- what is read is written
 
 none-accepted : (b : Bool) (r : Read) (s : Site) → pick b (refusedAt NoBytes 0) r ≡ accepted s → r ≡ accepted s
 none-accepted true r s e = absurd (not-refused NoBytes 0 s e)
 none-accepted false r s e = e
-
-accepted-same : (x y : Site) → accepted x ≡ accepted y → x ≡ y
-unfolding accepted
-accepted-same x y e = ap (λ (r : Read). r .site) e
 
 record Only (o : Outcome) (y : Site) (next n : ℕ) (s : Site) : Type 0 where
   pub outcome : o ≡ Accepted

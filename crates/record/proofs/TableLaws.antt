@@ -5,7 +5,7 @@ use Prim.Native.Nat.{ℕ, zero, suc, _≤_}
 use native.Mathlib.Nat.{le-of-suc-le-suc, not-suc-le-zero}
 use native.Mathlib.Omega.{arith}
 use lib.ListN.{length, getD, take, replicate}
-use Rattle.record.specs.Bytes.{table}
+use Rattle.site.specs.Field.{table}
 
 module _ {ℓ} {A : Type ℓ} where
   pub table-getD : (l : List A) (d : A) → table (length l) (λ i. getD l i d) ≡ l

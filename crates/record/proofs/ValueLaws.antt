@@ -11,7 +11,8 @@ use Rattle.site.specs.declared.Checked.the-variants.{Passed}
 use Rattle.site.specs.Bounds.{noEntry}
 use Rattle.site.specs.Values.{itemCount, countRule}
 use Rattle.site.proofs.LengthLaws.{count-parts}
-use Rattle.record.specs.Bytes.{table, entriesBytes}
+use Rattle.record.specs.Bytes.{entriesBytes}
+use Rattle.site.specs.Field.{table}
 use Rattle.record.specs.RoundTrip.{Sized}
 use Rattle.record.proofs.TableLaws.{table-getD}
 use Rattle.record.proofs.EntryLaws.{length-entries, entries-take}

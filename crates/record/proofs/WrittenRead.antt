@@ -8,26 +8,28 @@ use lib.ListN.{length, getD, take}
 use Rattle.site.specs.declared.Site.{Site}
 use Rattle.site.specs.Values.{due, lengthPermitted}
 use Rattle.site.proofs.LengthLaws.{permitted-parts, one-item}
-use Rattle.record.specs.Bytes.{wordAt, wordBytes, valueAt, restAt, table, entryAt, entriesBytes}
-use Rattle.record.specs.Field.{blankSite, store, value}
+use Rattle.record.specs.Bytes.{wordBytes, valueAt, restAt, entriesBytes}
+use Rattle.site.specs.Field.{wordAt, table, entryAt, store}
+use Rattle.record.specs.Field.{blankSite, value}
 use Rattle.record.specs.Reader.{walk, fieldSite, accepted}
 use Rattle.record.specs.RoundTrip.{Bytes}
 use Rattle.record.specs.Writer.{encodeFields}
 use Rattle.record.proofs.TableLaws.{table-getD, take-table}
 use Rattle.record.proofs.EntryLaws.{no-length, entries-back}
 use Rattle.record.proofs.FieldBytes.{field-whole, value-bytes, rest-bytes}
-use Rattle.record.proofs.Parsed.{Parsed, parse, value-permitted}
+use Rattle.record.proofs.Parsed.{Parsed, parse}
 
+infixr 67 _▸_
 -- the values of s are those of the fields bs
-unfoldable Agrees : List ℕ → List ℕ → Site → Type 0
-Agrees [] bs s = Unit
-Agrees (t ∷ ts) bs s = (value t s ≡ valueAt bs) × Agrees ts (restAt bs) s
+data Agrees (s : Site) : List ℕ → List ℕ → Type 0 where
+  none : {bs : List ℕ} → Agrees s [] bs
+  _▸_ : {t : ℕ} {ts bs : List ℕ} → value t s ≡ valueAt bs → Agrees s ts (restAt bs) → Agrees s (t ∷ ts) bs
 
-encode-parsed : (ts : List ℕ) (x s : Site) (bs : List ℕ) → Bytes bs → Parsed ts x s bs → Agrees ts bs s → encodeFields ts s ≡ bs
-unfolding Parsed Agrees encodeFields
-encode-parsed [] x s bs b p a = sym (no-length bs (p .1))
-encode-parsed (t ∷ ts) x s bs b p a =
-    rw (a .0, encode-parsed ts (fieldSite t bs x) s (restAt bs) (rest-bytes bs b) (p .2) (a .1)) (field-whole t bs b (p .0 .tag) (p .0 .inside))
+encode-parsed : (ts : List ℕ) (x s : Site) (bs : List ℕ) → Bytes bs → Parsed ts x s bs → Agrees s ts bs → encodeFields ts s ≡ bs
+unfolding Parsed encodeFields
+encode-parsed [] x s bs b p none = sym (no-length bs (p .1))
+encode-parsed (t ∷ ts) x s bs b p (a ▸ more) =
+    rw (a, encode-parsed ts (fieldSite t bs x) s (restAt bs) (rest-bytes bs b) (p .3) more) (field-whole t bs b (p .0 .tag) (p .0 .inside))
 
 -- ---- what was stored is written
 
@@ -67,10 +69,10 @@ Fields (t ∷ ts) bs = (lengthPermitted t (length (valueAt bs)) ≡ true) × Byt
 fields : (ts : List ℕ) (x s : Site) (bs : List ℕ) → Bytes bs → Parsed ts x s bs → Fields ts bs
 unfolding Parsed Fields
 fields [] x s bs b p = tt
-fields (t ∷ ts) x s bs b p = (value-permitted t bs (p .0), value-bytes bs b, fields ts (fieldSite t bs x) s (restAt bs) (rest-bytes bs b) (p .2))
+fields (t ∷ ts) x s bs b p = (p .1, value-bytes bs b, fields ts (fieldSite t bs x) s (restAt bs) (rest-bytes bs b) (p .3))
 
-agrees : (s : Site) (bs : List ℕ) → Bytes bs → Parsed due blankSite s bs → Agrees due bs s
-unfolding Parsed Fields Agrees value store
+agrees : (s : Site) (bs : List ℕ) → Bytes bs → Parsed due blankSite s bs → Agrees s due bs
+unfolding Parsed Fields value store
 agrees s bs b p =
     let f1 = fields due blankSite s bs b p in
     let f2 = f1 .2 in
@@ -87,52 +89,23 @@ agrees s bs b p =
     let f13 = f12 .2 in
     let f14 = f13 .2 in
     let f15 = f14 .2 in
-    subst (λ (y : Site). Agrees due bs y) (p .2 .2 .2 .2 .2 .2 .2 .2 .2 .2 .2 .2 .2 .2 .2 .0) (
-      name-kept _ (f1 .0),
-      (
-        byte-kept _ (one-item 2 _ refl (f2 .0)),
-        (
-          bytes-kept _ (one-item 3 _ refl (f3 .0)),
-          (
-            byte-kept _ (one-item 4 _ refl (f4 .0)),
-            (
-              byte-kept _ (one-item 5 _ refl (f5 .0)),
-              (
-                word-kept _ (one-item 6 _ refl (f6 .0)) (f6 .1),
-                (
-                  stand-kept _ (f7 .0) (f7 .1),
-                  (
-                    word-kept _ (one-item 8 _ refl (f8 .0)) (f8 .1),
-                    (
-                      byte-kept _ (one-item 9 _ refl (f9 .0)),
-                      (
-                        word-kept _ (one-item 10 _ refl (f10 .0)) (f10 .1),
-                        (
-                          word-kept _ (one-item 11 _ refl (f11 .0)) (f11 .1),
-                          (
-                            word-kept _ (one-item 12 _ refl (f12 .0)) (f12 .1),
-                            (
-                              word-kept _ (one-item 13 _ refl (f13 .0)) (f13 .1),
-                              (
-                                word-kept _ (one-item 14 _ refl (f14 .0)) (f14 .1),
-                                (
-                                  words-kept _ (one-item 15 _ refl (f15 .0)) (f15 .1),
-                                  tt,
-                                ),
-                              ),
-                            ),
-                          ),
-                        ),
-                      ),
-                    ),
-                  ),
-                ),
-              ),
-            ),
-          ),
-        ),
-      ),
-    )
+    subst (λ (y : Site). Agrees y due bs) (p .3 .3 .3 .3 .3 .3 .3 .3 .3 .3 .3 .3 .3 .3 .3 .0)
+    (name-kept _ (f1 .0)
+    ▸ byte-kept _ (one-item 2 _ refl (f2 .0))
+    ▸ bytes-kept _ (one-item 3 _ refl (f3 .0))
+    ▸ byte-kept _ (one-item 4 _ refl (f4 .0))
+    ▸ byte-kept _ (one-item 5 _ refl (f5 .0))
+    ▸ word-kept _ (one-item 6 _ refl (f6 .0)) (f6 .1)
+    ▸ stand-kept _ (f7 .0) (f7 .1)
+    ▸ word-kept _ (one-item 8 _ refl (f8 .0)) (f8 .1)
+    ▸ byte-kept _ (one-item 9 _ refl (f9 .0))
+    ▸ word-kept _ (one-item 10 _ refl (f10 .0)) (f10 .1)
+    ▸ word-kept _ (one-item 11 _ refl (f11 .0)) (f11 .1)
+    ▸ word-kept _ (one-item 12 _ refl (f12 .0)) (f12 .1)
+    ▸ word-kept _ (one-item 13 _ refl (f13 .0)) (f13 .1)
+    ▸ word-kept _ (one-item 14 _ refl (f14 .0)) (f14 .1)
+    ▸ words-kept _ (one-item 15 _ refl (f15 .0)) (f15 .1)
+    ▸ none)
 
 pub encode-read : (s : Site) (bs : List ℕ) (at : ℕ) → Bytes bs → walk due blankSite bs at ≡ accepted s → encodeFields due s ≡ bs
 encode-read s bs at b e =

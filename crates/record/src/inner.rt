@@ -10,14 +10,12 @@ use crate::Read;
 use crate::blank::blank;
 use crate::blank::refused;
 use crate::bytes::stated_len;
-use crate::store::store_field;
 use site::Checked;
 use site::DUE;
 use site::Rule;
-use site::field_rule;
-use site::length_permitted;
+use site::take_field;
 
-// Rules 5, 6 and 7 at the bytes that are left.
+// Rules 5 and 6 at the bytes that are left.
 fn head_rule(rest: &[u8], tag: u8) -> Checked
     ensures { λ r. ⌜ r ≡ headRule tag (now (rest .entry)) ⌝ }
 {
@@ -34,25 +32,23 @@ fn head_rule(rest: &[u8], tag: u8) -> Checked
         if left - 3 < n {
             return Checked::Broken(Rule::InnerCut);
         }
-        if length_permitted(tag, n) {
-            return Checked::Passed;
-        }
-        return Checked::Broken(Rule::BadLength);
+        return Checked::Passed;
     }
     Checked::Broken(Rule::InnerTag)
 }
 
-// The part starts at `base` of the lent input.
+// The fields 01 to 0F of a record. The part starts at `base` of the lent input.
 pub fn read_fields(part: &[u8], base: usize) -> Read
     requires { ⌜ base + length (now part) < 2 ^ 64 ⌝ }
     ensures { λ r. ⌜ r ≡ walk due blankSite (now (part .entry)) base ⌝ }
 {
+    let tags = DUE;
     let mut site = blank();
     let mut rest = part;
     let mut at = base;
     let mut k: usize = 0;
     while k < 15 {
-        let tag = DUE[k];
+        let tag = tags[k];
         match head_rule(rest, tag) {
             Checked::Broken(rule) => {
                 return refused(rule, at);
@@ -60,13 +56,15 @@ pub fn read_fields(part: &[u8], base: usize) -> Read
             Checked::Passed => {}
         }
         let end = 3 + stated_len(rest);
-        site = store_field(site, tag, &rest[3..end]);
-        match field_rule(site, tag) {
+        let x = take_field(site, tag, &rest[3..end]);
+        let checked = x.checked;
+        match checked {
             Checked::Broken(rule) => {
                 return refused(rule, at);
             }
             Checked::Passed => {}
         }
+        site = x.site;
         rest = &rest[end..];
         at = at + end;
         k = k + 1;

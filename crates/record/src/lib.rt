@@ -4,7 +4,6 @@ mod bytes;
 mod inner;
 mod outer;
 mod put;
-mod store;
 mod value;
 mod writer;
 

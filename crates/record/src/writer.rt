@@ -33,6 +33,7 @@ fn put_record(buf: &mut [u8], site: Site, body: usize)
     put_fields(buf, site);
 }
 
+// The record of the site at the front of the buffer; a refusal leaves the buffer as it is.
 pub fn write_record(site: Site, buf: &mut [u8]) -> Written
     ensures answer { λ r. ⌜ r ≡ answerOf (writeRule site (length (now (buf .entry)))) (length (encode site)) ⌝ }
     ensures buffer { λ _. ⌜ now (buf .exit) ≡ bufferOf (writeRule site (length (now (buf .entry)))) (encode site) (now (buf .entry)) ⌝ }

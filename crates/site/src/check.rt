@@ -4,11 +4,10 @@ ghost use Rattle.site.specs.Check.{siteRule};
 ghost use Rattle.site.specs.Refusal.{andThen, checkedNumber};
 ghost use Rattle.site.specs.Values.{countRule, valueRule};
 use crate::Checked;
+use crate::DUE;
 use crate::Site;
 use crate::length::count_rule;
 use crate::value::field_rule;
-
-const DUE: [u8; 15] = [1, 2, 3, 4, 5, 6, 7, 8, 9, 10, 11, 12, 13, 14, 15];
 
 fn check_field(site: Site, tag: u8) -> Checked
     ensures { λ r. ⌜ r ≡ andThen (countRule tag site) (valueRule tag site) ⌝ }
@@ -23,9 +22,10 @@ pub fn check_site(site: Site) -> Checked
     ensures answer { λ r. ⌜ r ≡ siteRule site ⌝ }
     ensures number { λ r. ⌜ checkedNumber r ≡ checkedNumber (siteRule site) ⌝ }
 {
+    let tags = DUE;
     let mut k: usize = 0;
     while k < 15 {
-        let tag = DUE[k];
+        let tag = tags[k];
         match check_field(site, tag) {
             Checked::Broken(rule) => {
                 return Checked::Broken(rule);

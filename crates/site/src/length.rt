@@ -1,6 +1,5 @@
 // Rule 7, for the bytes of a field and for a site value.
 ghost use mathlib.Core.Path.{_≡_};
-ghost use Prim.Native.Nat.{_≤_};
 ghost use lib.ListN.{getD};
 ghost use Rattle.site.specs.Values.{itemWidths, mostItems, lengthPermitted, itemCount, countRule};
 use crate::Checked;
@@ -8,29 +7,52 @@ use crate::Rule;
 use crate::Site;
 use crate::numbers::wide;
 
-// By tag from 0: the bytes of an item, and how many items there may be.
-const ITEM_WIDTHS: [u8; 16] = [1, 1, 1, 2, 1, 1, 2, 4, 2, 1, 2, 2, 2, 2, 2, 4];
-
-const MOST_ITEMS: [u8; 16] = [0, 8, 1, 1, 1, 1, 1, 4, 1, 1, 1, 1, 1, 1, 1, 1];
-
+// By tag: the bytes of an item. A match and no constant array, which would be set up anew at each call.
 fn item_width(tag: u8) -> usize
     ensures { λ r. ⌜ r ≡ getD itemWidths tag 1 ⌝ }
 {
-    let t = wide(tag);
-    if t < 16 {
-        return wide(ITEM_WIDTHS[t]);
+    match tag {
+        1 => 1,
+        2 => 1,
+        3 => 2,
+        4 => 1,
+        5 => 1,
+        6 => 2,
+        7 => 4,
+        8 => 2,
+        9 => 1,
+        10 => 2,
+        11 => 2,
+        12 => 2,
+        13 => 2,
+        14 => 2,
+        15 => 4,
+        _ => 1,
     }
-    1
 }
 
+// By tag: how many items there may be.
 fn most_items(tag: u8) -> usize
     ensures { λ r. ⌜ r ≡ getD mostItems tag 0 ⌝ }
 {
-    let t = wide(tag);
-    if t < 16 {
-        return wide(MOST_ITEMS[t]);
+    match tag {
+        1 => 8,
+        2 => 1,
+        3 => 1,
+        4 => 1,
+        5 => 1,
+        6 => 1,
+        7 => 4,
+        8 => 1,
+        9 => 1,
+        10 => 1,
+        11 => 1,
+        12 => 1,
+        13 => 1,
+        14 => 1,
+        15 => 1,
+        _ => 0,
     }
-    0
 }
 
 pub fn length_permitted(tag: u8, n: usize) -> bool

@@ -1,13 +1,19 @@
 // The value of a forest site, the rules of document 01, and the check of a site value.
+mod bytes;
 mod check;
+mod field;
 mod length;
 mod name;
 mod numbers;
+mod ranges;
 mod refusal;
 mod stand;
 mod value;
 
+pub use bytes::byte;
+pub use bytes::word;
 pub use check::check_site;
+pub use field::take_field;
 pub use length::length_permitted;
 pub use numbers::wide;
 pub use numbers::word_between;
@@ -67,4 +73,10 @@ pub enum Rule {
 pub enum Checked {
     Passed,
     Broken(Rule),
+}
+
+// A field taken into a site: what its rules say, and the site.
+pub struct Taken {
+    pub checked: Checked,
+    pub site: Site,
 }

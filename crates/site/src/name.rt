@@ -1,7 +1,9 @@
 // Rule 8 for the name: A–Z, 0–9, hyphen.
 ghost use mathlib.Core.Path.{_≡_};
 ghost use lib.ListN.{take};
-ghost use Rattle.site.specs.Values.{nameByte, allOf};
+ghost use Rattle.site.specs.Values.{nameByte, allOf, ranged};
+use crate::Checked;
+use crate::numbers::in_range;
 use crate::numbers::wide;
 
 fn name_byte(b: u8) -> bool
@@ -19,7 +21,7 @@ fn name_byte(b: u8) -> bool
     b <= 90
 }
 
-pub fn name_ranged(name: [u8; 8], n: u8) -> bool
+fn name_ranged(name: [u8; 8], n: u8) -> bool
     ensures { λ r. ⌜ r ≡ allOf nameByte (take n name) ⌝ }
 {
     let count = wide(n);
@@ -36,4 +38,10 @@ pub fn name_ranged(name: [u8; 8], n: u8) -> bool
         }
     }
     true
+}
+
+pub fn name_rule(name: [u8; 8], n: u8) -> Checked
+    ensures { λ r. ⌜ r ≡ ranged (allOf nameByte (take n name)) ⌝ }
+{
+    in_range(name_ranged(name, n))
 }

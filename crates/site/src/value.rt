@@ -1,54 +1,49 @@
-// Rules 8, 9 and 10 of the field with a given tag.
+// Rules 8, 9 and 10 of a site's field with a given tag.
 ghost use mathlib.Core.Path.{_≡_};
-ghost use Prim.Native.Nat.{_+_};
-ghost use lib.Dec.{leb};
 ghost use Rattle.site.specs.Refusal.{checkedNumber};
-ghost use Rattle.site.specs.Values.{ranged, valueRule};
+ghost use Rattle.site.specs.Values.{valueRule};
 use crate::Checked;
 use crate::Site;
-use crate::name::name_ranged;
-use crate::numbers::byte_between;
-use crate::numbers::in_range;
-use crate::numbers::wide;
-use crate::numbers::word_between;
+use crate::name::name_rule;
+use crate::ranges::available_rule;
+use crate::ranges::base_deposition_rule;
+use crate::ranges::ceiling_rule;
+use crate::ranges::depth_rule;
+use crate::ranges::drainage_rule;
+use crate::ranges::gibbsite_rule;
+use crate::ranges::immobilisation_rule;
+use crate::ranges::leachate_rule;
+use crate::ranges::parent_rule;
+use crate::ranges::percolation_rule;
+use crate::ranges::ratio_rule;
+use crate::ranges::texture_rule;
 use crate::stand::stand_rule;
-
-fn name_rule(site: Site) -> Checked
-    ensures { λ r. ⌜ r ≡ valueRule 1 site ⌝ }
-{
-    let name = site.name;
-    in_range(name_ranged(name, site.name_len))
-}
-
-fn texture_rule(clay: u8, sand: u8) -> Checked
-    ensures { λ r. ⌜ r ≡ ranged (leb (clay + sand) 100) ⌝ }
-{
-    let sum = wide(clay) + wide(sand);
-    in_range(sum <= 100)
-}
 
 pub fn field_rule(site: Site, tag: u8) -> Checked
     ensures answer { λ r. ⌜ r ≡ valueRule tag site ⌝ }
     ensures number { λ r. ⌜ checkedNumber r ≡ checkedNumber (valueRule tag site) ⌝ }
 {
     match tag {
-        1 => name_rule(site),
-        2 => byte_between(0, 4, site.parent),
+        1 => {
+            let name = site.name;
+            name_rule(name, site.name_len)
+        }
+        2 => parent_rule(site.parent),
         3 => texture_rule(site.clay, site.sand),
-        4 => byte_between(1, 200, site.depth),
-        5 => byte_between(0, 5, site.drainage),
-        6 => word_between(1, 3000, site.percolation),
+        4 => depth_rule(site.depth),
+        5 => drainage_rule(site.drainage),
+        6 => percolation_rule(site.percolation),
         7 => {
             let stand = site.stand;
             stand_rule(stand, site.entries)
         }
-        8 => word_between(0, 500, site.immobilisation),
-        9 => byte_between(70, 85, site.available),
-        10 => word_between(0, 5000, site.base_deposition),
-        11 => word_between(100, 20000, site.ratio),
-        12 => word_between(1, 10000, site.gibbsite),
-        13 => word_between(1, 5000, site.ceiling),
-        14 => word_between(1, 1000, site.leachate),
+        8 => immobilisation_rule(site.immobilisation),
+        9 => available_rule(site.available),
+        10 => base_deposition_rule(site.base_deposition),
+        11 => ratio_rule(site.ratio),
+        12 => gibbsite_rule(site.gibbsite),
+        13 => ceiling_rule(site.ceiling),
+        14 => leachate_rule(site.leachate),
         _ => Checked::Passed,
     }
 }

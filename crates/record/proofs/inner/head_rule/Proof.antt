@@ -23,20 +23,13 @@ returns-3 : tie.Need-returns-3
 unfolding headRule
 returns-3 c = rw (ne-eqb _ _ (c .before .before .before .before .before .if1 .left), le-ltb _ _ (c .before .before .before .before .if2 .left), eq-eqb _ _ (c .before .before .if3 .taken), sym (c .before .stated-len .ensures .0), lt-ltb _ _ (c .if4 .taken))
 
-length-permitted-requires : tie.Need-length-permitted-requires
-length-permitted-requires c κs = search needs
-
 returns-4 : tie.Need-returns-4
 unfolding headRule
-returns-4 c = rw (ne-eqb _ _ (c .before .before .before .before .before .before .before .if1 .left), le-ltb _ _ (c .before .before .before .before .before .before .if2 .left), eq-eqb _ _ (c .before .before .before .before .if3 .taken), sym (c .before .before .before .stated-len .ensures .0), le-ltb _ _ (c .before .before .if4 .left), sym (c .before .length-permitted .ensures), c .if5 .taken)
+returns-4 c = rw (ne-eqb _ _ (c .before .before .before .before .before .if1 .left), le-ltb _ _ (c .before .before .before .before .if2 .left), eq-eqb _ _ (c .before .before .if3 .taken), sym (c .before .stated-len .ensures .0), le-ltb _ _ (c .if4 .left))
 
 returns-5 : tie.Need-returns-5
 unfolding headRule
-returns-5 c = rw (ne-eqb _ _ (c .before .before .before .before .before .before .before .if1 .left), le-ltb _ _ (c .before .before .before .before .before .before .if2 .left), eq-eqb _ _ (c .before .before .before .before .if3 .taken), sym (c .before .before .before .stated-len .ensures .0), le-ltb _ _ (c .before .before .if4 .left), sym (c .before .length-permitted .ensures), c .if5 .left)
-
-returns-6 : tie.Need-returns-6
-unfolding headRule
-returns-6 c = rw (ne-eqb _ _ (c .before .before .before .if1 .left), le-ltb _ _ (c .before .before .if2 .left), ne-eqb _ _ (c .if3 .left))
+returns-5 c = rw (ne-eqb _ _ (c .before .before .before .if1 .left), le-ltb _ _ (c .before .before .if2 .left), ne-eqb _ _ (c .if3 .left))
 
 pub head-rule-spec : {M : Type 1} → statement M
 head-rule-spec =
@@ -47,7 +40,5 @@ head-rule-spec =
     shared-slice-read-first
     stated-len-requires
     returns-3
-    length-permitted-requires
     returns-4
-    returns-5
-    returns-6)
+    returns-5)

@@ -9,15 +9,15 @@ use Rattle.site.specs.Values.{due}
 use Rattle.record.specs.Bytes.{statedLen}
 use Rattle.record.specs.Field.{blankSite}
 use Rattle.record.specs.Reader.{accepted, headRule, walk}
-use Rattle.record.proofs.WalkLaws.{HeadOk, head-passed, part-permitted, walk-head, walk-value, walk-next, walk-done, walk-more}
+use Rattle.record.proofs.WalkLaws.{HeadOk, head-passed, walk-head, walk-value, walk-next, walk-done, walk-more}
 use Rattle.record.proofs.inner.read_fields.Statement.{statement}
 use Rattle.record.proofs.inner.read_fields.Tie as tie
 
 abbrev Inv-loop : tie.InvT-loop
-Inv-loop part base site₀ rest₀ at₀ k₀ site rest at k = (k ≤ 15) × (at + length rest ≡ base + length part) × (walk due blankSite part base ≡ walk (drop k due) site rest at)
+Inv-loop part base tags site₀ rest₀ at₀ k₀ site rest at k = (k ≤ 15) × (at + length rest ≡ base + length part) × (walk due blankSite part base ≡ walk (drop k due) site rest at)
 
 abbrev μ-loop : tie.MeasureT-loop
-μ-loop part base site₀ rest₀ at₀ k₀ site rest at k = 15 - k
+μ-loop part base tags site₀ rest₀ at₀ k₀ site rest at k = 15 - k
 
 head-is : (c : tie.After-enum-told Inv-loop μ-loop) → headRule (getD due (c .before .before .before .before .loop .k) 0) (c .before .before .before .before .loop .rest .now) ≡ Passed
 head-is c = sym (c .before .before .head-rule .ensures) ∙ c .enum-told .given .1
@@ -60,23 +60,20 @@ stated-len-requires c κs = search needs
 add-end : tie.Need-add-end Inv-loop μ-loop
 add-end c = search needs
 
-sub-store-field : tie.Need-sub-store-field Inv-loop μ-loop
-sub-store-field c = search needs
+sub-take-field : tie.Need-sub-take-field Inv-loop μ-loop
+sub-take-field c = search needs
 
-part-store-field-start : tie.Need-part-store-field-start Inv-loop μ-loop
-part-store-field-start c = search needs
+part-take-field-start : tie.Need-part-take-field-start Inv-loop μ-loop
+part-take-field-start c = search needs
 
-part-store-field-end : tie.Need-part-store-field-end Inv-loop μ-loop
-part-store-field-end c = omega (arith, ok (c .before) .inside)
+part-take-field-end : tie.Need-part-take-field-end Inv-loop μ-loop
+part-take-field-end c = omega (arith, ok (c .before) .inside)
 
-store-field-requires : tie.Need-store-field-requires Inv-loop μ-loop
-store-field-requires c κs = part-permitted _ _ _ (ok (c .before .before)) (end-is (c .before))
+take-field-requires : tie.Need-take-field-requires Inv-loop μ-loop
+take-field-requires c κs = search needs
 
-field-rule-requires : tie.Need-field-rule-requires Inv-loop μ-loop
-field-rule-requires c κs = search needs
-
-enum-known-rule-2 : tie.Need-enum-known-rule-2 Inv-loop μ-loop
-enum-known-rule-2 c = search needs
+enum-known-checked : tie.Need-enum-known-checked Inv-loop μ-loop
+enum-known-checked c = search needs
 
 refused-requires-2 : tie.Need-refused-requires-2 Inv-loop μ-loop
 refused-requires-2 c κs = search needs
@@ -84,11 +81,11 @@ refused-requires-2 c κs = search needs
 returns-2 : tie.Need-returns-2 Inv-loop μ-loop
 returns-2 c =
     let f = c .before .before .before .before in
-    let e = f .before .before .before .before in
+    let e = f .before .before .before in
     let h = e .before .before in
     c .refused2 .ensures
     ∙ sym (h .before .before .loop .inv .2
-    ∙ walk-value due _ (h .before .loop-test .taken) _ _ _ (head-is e) _ _ (end-is (f .before .before .before)) (f .before .store-field .ensures) _ (sym (f .field-rule .ensures .0) ∙ c .before .before .rule2 .given .1))
+    ∙ walk-value due _ (h .before .loop-test .taken) _ _ _ (head-is e) _ _ (end-is (f .before .before)) (f .take-field .ensures .0) _ (c .before .before .checked .given .1))
 
 enum-told-2 : tie.Need-enum-told-2 Inv-loop μ-loop
 enum-told-2 c = search needs
@@ -113,13 +110,13 @@ loop-less c = search needs
 
 loop-again : tie.Need-loop-again Inv-loop μ-loop
 loop-again c =
-    let f = c .before .before .before in
-    let e = f .before .before .before .before in
+    let f = c .before .before .before .before in
+    let e = f .before .before .before in
     let h = e .before .before in (
       search needs,
       simp (length-take, length-drop) (omega (arith, ok e .inside)),
       h .before .before .loop .inv .2
-          ∙ walk-next due _ (h .before .loop-test .taken) _ _ _ (head-is e) _ _ (end-is (f .before .before .before)) (f .before .store-field .ensures) (sym (f .field-rule .ensures .0) ∙ c .before .enum-told2 .given .1),
+          ∙ walk-next due _ (h .before .loop-test .taken) _ _ _ (head-is e) _ _ (end-is (f .before .before)) (f .take-field .ensures .0) (c .before .before .enum-told2 .given .1),
     )
 
 returns-3 : tie.Need-returns-3 Inv-loop μ-loop
@@ -148,12 +145,11 @@ read-fields-spec =
     enum-told
     stated-len-requires
     add-end
-    sub-store-field
-    part-store-field-start
-    part-store-field-end
-    store-field-requires
-    field-rule-requires
-    enum-known-rule-2
+    sub-take-field
+    part-take-field-start
+    part-take-field-end
+    take-field-requires
+    enum-known-checked
     refused-requires-2
     returns-2
     enum-told-2

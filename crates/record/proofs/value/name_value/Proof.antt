@@ -2,7 +2,7 @@ use mathlib.Core.Path.{_≡_}
 use native.Mathlib.Omega.{arith}
 use lib.ListN.{length, length-take}
 use borrow.Author.Needs.{needs}
-use Rattle.record.specs.Bytes.{table}
+use Rattle.site.specs.Field.{table}
 use Rattle.record.proofs.ValueLaws.{nameBytes, name-value}
 use Rattle.record.proofs.value.name_value.Statement.{statement}
 use Rattle.record.proofs.value.name_value.Tie as tie

@@ -3,7 +3,8 @@ use Prim.Native.Nat.{_≤_}
 use native.Mathlib.Omega.{arith}
 use lib.ListN.{length, length-take}
 use borrow.Author.Needs.{needs}
-use Rattle.record.specs.Bytes.{table, entriesBytes}
+use Rattle.record.specs.Bytes.{entriesBytes}
+use Rattle.site.specs.Field.{table}
 use Rattle.record.proofs.ValueLaws.{stand-value}
 use Rattle.record.proofs.EntryLaws.{length-entries}
 use Rattle.record.proofs.value.stand_value.Statement.{statement}

@@ -4,6 +4,7 @@ use native.Mathlib.Omega.{arith}
 use lib.ListN.{drop}
 use borrow.Author.Needs.{needs}
 use Rattle.site.specs.Check.{fieldsRule, siteRule}
+use Rattle.site.specs.Field.{taken}
 use Rattle.site.specs.Values.{due}
 use Rattle.site.proofs.Passing.{with-number}
 use Rattle.site.proofs.FieldLaws.{fields-broken, fields-next}
@@ -11,10 +12,10 @@ use Rattle.site.proofs.check.check_site.Statement.{statement}
 use Rattle.site.proofs.check.check_site.Tie as tie
 
 abbrev Inv-loop : tie.InvT-loop
-Inv-loop site k₀ k = (k ≤ 15) × (siteRule site ≡ fieldsRule (drop k due) site)
+Inv-loop site tags k₀ k = (k ≤ 15) × (siteRule site ≡ fieldsRule (drop k due) site)
 
 abbrev μ-loop : tie.MeasureT-loop
-μ-loop site k₀ k = 15 - k
+μ-loop site tags k₀ k = 15 - k
 
 loop-holds : tie.Need-loop-holds Inv-loop μ-loop
 unfolding siteRule

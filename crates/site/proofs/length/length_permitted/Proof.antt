@@ -1,30 +1,24 @@
 use mathlib.Core.Path.{_≡_, sym}
-use Prim.Native.Nat.{_%_, _<_}
+use Prim.Native.Nat.{_%_}
 use native.Mathlib.Nat.{mul-le-mul, mod-self}
 use native.Mathlib.Omega.{arith}
 use lib.Dec.{eqb}
 use lib.ListN.{getD}
+use borrow.Author.Needs.{needs}
+use Rattle.site.specs.Field.{taken}
 use Rattle.site.specs.Values.{itemWidths, lengthPermitted}
 use Rattle.site.proofs.LengthLaws.{width-positive, width-at-most, items-at-most, permitted-past, permitted-none, permitted-more, permitted-items}
-use borrow.Author.Needs.{needs}
 use Rattle.site.proofs.length.length_permitted.Statement.{statement}
 use Rattle.site.proofs.length.length_permitted.Tie as tie
 
-items : (c : tie.Else3)
-    → lengthPermitted (c .before .before .before .before .before .args .tag) (c .before .before .before .before .before .args .n)
-    ≡ eqb (c .before .before .before .before .before .args .n % getD itemWidths (c .before .before .before .before .before .args .tag) 1) 0
-items c =
-    let a = c .before .before .before .before .before .args in
-    let h : a .tag < 16 = omega arith in
-    permitted-items (a .tag) (a .n) h (c .before .before .before .if2 .left) (rw (c .before .before .item-width .ensures, c .before .most-items .ensures) at (c .if3 .left))
+items : (c : tie.Else3) → let a = c .before .before .before .before .before .args in lengthPermitted (a .tag) (a .n) ≡ eqb (a .n % getD itemWidths (a .tag) 1) 0
+items c = permitted-items _ _ (c .before .before .before .before .if1 .left) (c .before .before .before .if2 .left) (rw (c .before .before .item-width .ensures, c .before .most-items .ensures) at (c .if3 .left))
 
 returns : tie.Need-returns
 returns c = sym (permitted-past _ _ (c .if1 .taken))
 
 returns-2 : tie.Need-returns-2
-returns-2 c =
-    let h : c .before .before .args .tag < 16 = omega arith in
-    sym (permitted-none _ _ h (c .if2 .taken))
+returns-2 c = sym (permitted-none _ _ (c .before .if1 .left) (c .if2 .taken))
 
 item-width-requires : tie.Need-item-width-requires
 item-width-requires c κs = search needs
@@ -38,10 +32,7 @@ mul-if3 c =
     rw (c .before .item-width .ensures, c .most-items .ensures) (omega (arith, mul-le-mul (width-at-most t) (items-at-most t)))
 
 returns-3 : tie.Need-returns-3
-returns-3 c =
-    let a = c .before .before .before .before .before .args in
-    let h : a .tag < 16 = omega arith in
-    sym (permitted-more (a .tag) (a .n) h (c .before .before .before .if2 .left) (rw (c .before .before .item-width .ensures, c .before .most-items .ensures) at (c .if3 .taken)))
+returns-3 c = sym (permitted-more _ _ (c .before .before .before .before .if1 .left) (c .before .before .before .if2 .left) (rw (c .before .before .item-width .ensures, c .before .most-items .ensures) at (c .if3 .taken)))
 
 returns-4 : tie.Need-returns-4
 returns-4 c = rw (items (c .before), sym (c .before .before .before .item-width .ensures), sym (c .if4 .taken), mod-self)

@@ -1,29 +1,75 @@
 use mathlib.Core.Path.{sym}
-use Prim.Native.Nat.{_≤_}
-use native.Mathlib.Omega.{arith}
-use lib.ListN.{length, List·getD-eq-default}
-use Rattle.site.specs.Values.{mostItems}
 use borrow.Author.Needs.{needs}
+use Rattle.site.proofs.MatchLaws.{none-below}
+use Rattle.site.proofs.LengthLaws.{no-items}
 use Rattle.site.proofs.length.most_items.Statement.{statement}
 use Rattle.site.proofs.length.most_items.Tie as tie
 
-wide-requires : tie.Need-wide-requires
-wide-requires c κs = search needs
-
-array-read-wide : tie.Need-array-read-wide
-array-read-wide c = search needs
-
-wide-requires-2 : tie.Need-wide-requires-2
-wide-requires-2 c κs = search needs
-
 returns : tie.Need-returns
-returns c = rw (c .wide2 .ensures .0, c .before .before .wide .ensures .0)
+returns c = search needs
 
 returns-2 : tie.Need-returns-2
-returns-2 c =
-    let h : length mostItems ≤ c .before .before .args .tag = omega arith in
-    sym (List·getD-eq-default mostItems 0 {n = c .before .before .args .tag} h)
+returns-2 c = search needs
+
+returns-3 : tie.Need-returns-3
+returns-3 c = search needs
+
+returns-4 : tie.Need-returns-4
+returns-4 c = search needs
+
+returns-5 : tie.Need-returns-5
+returns-5 c = search needs
+
+returns-6 : tie.Need-returns-6
+returns-6 c = search needs
+
+returns-7 : tie.Need-returns-7
+returns-7 c = search needs
+
+returns-8 : tie.Need-returns-8
+returns-8 c = search needs
+
+returns-9 : tie.Need-returns-9
+returns-9 c = search needs
+
+returns-10 : tie.Need-returns-10
+returns-10 c = search needs
+
+returns-11 : tie.Need-returns-11
+returns-11 c = search needs
+
+returns-12 : tie.Need-returns-12
+returns-12 c = search needs
+
+returns-13 : tie.Need-returns-13
+returns-13 c = search needs
+
+returns-14 : tie.Need-returns-14
+returns-14 c = search needs
+
+returns-15 : tie.Need-returns-15
+returns-15 c = search needs
+
+returns-16 : tie.Need-returns-16
+returns-16 c = sym (no-items _ (none-below 15 (c .before .args .tag) (c .match .rest)))
 
 pub most-items-spec : {M : Type 1} → statement M
 most-items-spec =
-    tie.close (tie.spec wide-requires array-read-wide wide-requires-2 returns returns-2)
+    tie.close
+    (tie.spec
+    returns
+    returns-2
+    returns-3
+    returns-4
+    returns-5
+    returns-6
+    returns-7
+    returns-8
+    returns-9
+    returns-10
+    returns-11
+    returns-12
+    returns-13
+    returns-14
+    returns-15
+    returns-16)

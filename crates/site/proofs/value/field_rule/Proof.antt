@@ -10,52 +10,52 @@ use Rattle.site.proofs.value.field_rule.Tie as tie
 name-rule-requires : tie.Need-name-rule-requires
 name-rule-requires c κs = search needs
 
-byte-between-requires : tie.Need-byte-between-requires
-byte-between-requires c κs = search needs
+parent-rule-requires : tie.Need-parent-rule-requires
+parent-rule-requires c κs = search needs
 
 texture-rule-requires : tie.Need-texture-rule-requires
 texture-rule-requires c κs = search needs
 
-byte-between-requires-2 : tie.Need-byte-between-requires-2
-byte-between-requires-2 c κs = search needs
+depth-rule-requires : tie.Need-depth-rule-requires
+depth-rule-requires c κs = search needs
 
-byte-between-requires-3 : tie.Need-byte-between-requires-3
-byte-between-requires-3 c κs = search needs
+drainage-rule-requires : tie.Need-drainage-rule-requires
+drainage-rule-requires c κs = search needs
 
-word-between-requires : tie.Need-word-between-requires
-word-between-requires c κs = search needs
+percolation-rule-requires : tie.Need-percolation-rule-requires
+percolation-rule-requires c κs = search needs
 
 stand-rule-requires : tie.Need-stand-rule-requires
 stand-rule-requires c κs = search needs
 
-word-between-requires-2 : tie.Need-word-between-requires-2
-word-between-requires-2 c κs = search needs
+immobilisation-rule-requires : tie.Need-immobilisation-rule-requires
+immobilisation-rule-requires c κs = search needs
 
-byte-between-requires-4 : tie.Need-byte-between-requires-4
-byte-between-requires-4 c κs = search needs
+available-rule-requires : tie.Need-available-rule-requires
+available-rule-requires c κs = search needs
 
-word-between-requires-3 : tie.Need-word-between-requires-3
-word-between-requires-3 c κs = search needs
+base-deposition-rule-requires : tie.Need-base-deposition-rule-requires
+base-deposition-rule-requires c κs = search needs
 
-word-between-requires-4 : tie.Need-word-between-requires-4
-word-between-requires-4 c κs = search needs
+ratio-rule-requires : tie.Need-ratio-rule-requires
+ratio-rule-requires c κs = search needs
 
-word-between-requires-5 : tie.Need-word-between-requires-5
-word-between-requires-5 c κs = search needs
+gibbsite-rule-requires : tie.Need-gibbsite-rule-requires
+gibbsite-rule-requires c κs = search needs
 
-word-between-requires-6 : tie.Need-word-between-requires-6
-word-between-requires-6 c κs = search needs
+ceiling-rule-requires : tie.Need-ceiling-rule-requires
+ceiling-rule-requires c κs = search needs
 
-word-between-requires-7 : tie.Need-word-between-requires-7
-word-between-requires-7 c κs = search needs
+leachate-rule-requires : tie.Need-leachate-rule-requires
+leachate-rule-requires c κs = search needs
 
 returns : tie.Need-returns
 unfolding valueRule
-returns c = with-number _ _ (rw (c .before .match .keys1) (c .name-rule .ensures))
+returns c = with-number _ _ (rw (c .before .before .match .keys1) (c .name-rule .ensures))
 
 returns-2 : tie.Need-returns-2
 unfolding valueRule
-returns-2 c = with-number _ _ (rw (c .before .match .keys2) (c .byte-between .ensures))
+returns-2 c = with-number _ _ (rw (c .before .match .keys2) (c .parent-rule .ensures))
 
 returns-3 : tie.Need-returns-3
 unfolding valueRule
@@ -63,15 +63,15 @@ returns-3 c = with-number _ _ (rw (c .before .match .keys3) (c .texture-rule .en
 
 returns-4 : tie.Need-returns-4
 unfolding valueRule
-returns-4 c = with-number _ _ (rw (c .before .match .keys4) (c .byte-between2 .ensures))
+returns-4 c = with-number _ _ (rw (c .before .match .keys4) (c .depth-rule .ensures))
 
 returns-5 : tie.Need-returns-5
 unfolding valueRule
-returns-5 c = with-number _ _ (rw (c .before .match .keys5) (c .byte-between3 .ensures))
+returns-5 c = with-number _ _ (rw (c .before .match .keys5) (c .drainage-rule .ensures))
 
 returns-6 : tie.Need-returns-6
 unfolding valueRule
-returns-6 c = with-number _ _ (rw (c .before .match .keys6) (c .word-between .ensures))
+returns-6 c = with-number _ _ (rw (c .before .match .keys6) (c .percolation-rule .ensures))
 
 returns-7 : tie.Need-returns-7
 unfolding valueRule
@@ -79,31 +79,31 @@ returns-7 c = with-number _ _ (rw (c .before .before .match .keys7) (c .stand-ru
 
 returns-8 : tie.Need-returns-8
 unfolding valueRule
-returns-8 c = with-number _ _ (rw (c .before .match .keys8) (c .word-between2 .ensures))
+returns-8 c = with-number _ _ (rw (c .before .match .keys8) (c .immobilisation-rule .ensures))
 
 returns-9 : tie.Need-returns-9
 unfolding valueRule
-returns-9 c = with-number _ _ (rw (c .before .match .keys9) (c .byte-between4 .ensures))
+returns-9 c = with-number _ _ (rw (c .before .match .keys9) (c .available-rule .ensures))
 
 returns-10 : tie.Need-returns-10
 unfolding valueRule
-returns-10 c = with-number _ _ (rw (c .before .match .keys10) (c .word-between3 .ensures))
+returns-10 c = with-number _ _ (rw (c .before .match .keys10) (c .base-deposition-rule .ensures))
 
 returns-11 : tie.Need-returns-11
 unfolding valueRule
-returns-11 c = with-number _ _ (rw (c .before .match .keys11) (c .word-between4 .ensures))
+returns-11 c = with-number _ _ (rw (c .before .match .keys11) (c .ratio-rule .ensures))
 
 returns-12 : tie.Need-returns-12
 unfolding valueRule
-returns-12 c = with-number _ _ (rw (c .before .match .keys12) (c .word-between5 .ensures))
+returns-12 c = with-number _ _ (rw (c .before .match .keys12) (c .gibbsite-rule .ensures))
 
 returns-13 : tie.Need-returns-13
 unfolding valueRule
-returns-13 c = with-number _ _ (rw (c .before .match .keys13) (c .word-between6 .ensures))
+returns-13 c = with-number _ _ (rw (c .before .match .keys13) (c .ceiling-rule .ensures))
 
 returns-14 : tie.Need-returns-14
 unfolding valueRule
-returns-14 c = with-number _ _ (rw (c .before .match .keys14) (c .word-between7 .ensures))
+returns-14 c = with-number _ _ (rw (c .before .match .keys14) (c .leachate-rule .ensures))
 
 returns-15 : tie.Need-returns-15
 returns-15 c = with-number _ _ (sym (value-none _ _ (none-below 14 (c .before .args .tag) (c .match .rest))))
@@ -113,19 +113,19 @@ field-rule-spec =
     tie.close
     (tie.spec
     name-rule-requires
-    byte-between-requires
+    parent-rule-requires
     texture-rule-requires
-    byte-between-requires-2
-    byte-between-requires-3
-    word-between-requires
+    depth-rule-requires
+    drainage-rule-requires
+    percolation-rule-requires
     stand-rule-requires
-    word-between-requires-2
-    byte-between-requires-4
-    word-between-requires-3
-    word-between-requires-4
-    word-between-requires-5
-    word-between-requires-6
-    word-between-requires-7
+    immobilisation-rule-requires
+    available-rule-requires
+    base-deposition-rule-requires
+    ratio-rule-requires
+    gibbsite-rule-requires
+    ceiling-rule-requires
+    leachate-rule-requires
     returns
     returns-2
     returns-3

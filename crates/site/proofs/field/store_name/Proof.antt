@@ -1,8 +1,8 @@
 use borrow.Author.Needs.{needs}
-use Rattle.record.specs.Bytes.{table}
-use Rattle.record.specs.Field.{store}
-use Rattle.record.proofs.store.store_name.Statement.{statement}
-use Rattle.record.proofs.store.store_name.Tie as tie
+use Rattle.site.specs.Field.{table, store}
+use Rattle.site.specs.Values.{valueRule}
+use Rattle.site.proofs.field.store_name.Statement.{statement}
+use Rattle.site.proofs.field.store_name.Tie as tie
 
 byte-requires : tie.Need-byte-requires
 byte-requires c κs = search needs
@@ -28,12 +28,15 @@ byte-requires-7 c κs = search needs
 byte-requires-8 : tie.Need-byte-requires-8
 byte-requires-8 c κs = search needs
 
-cast-s : tie.Need-cast-s
-cast-s c = search needs
+cast-n : tie.Need-cast-n
+cast-n c = search needs
+
+name-rule-requires : tie.Need-name-rule-requires
+name-rule-requires c κs = search needs
 
 returns : tie.Need-returns
-unfolding store table
-returns c = cc
+unfolding store table valueRule
+returns c = record { site = cc; checked = c .name-rule .ensures }
 
 pub store-name-spec : {M : Type 1} → statement M
 store-name-spec =
@@ -47,5 +50,6 @@ store-name-spec =
     byte-requires-6
     byte-requires-7
     byte-requires-8
-    cast-s
+    cast-n
+    name-rule-requires
     returns)

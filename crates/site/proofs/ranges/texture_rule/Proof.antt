@@ -1,7 +1,7 @@
 use mathlib.Core.Path.{sym}
 use borrow.Author.Needs.{needs}
-use Rattle.site.proofs.value.texture_rule.Statement.{statement}
-use Rattle.site.proofs.value.texture_rule.Tie as tie
+use Rattle.site.proofs.ranges.texture_rule.Statement.{statement}
+use Rattle.site.proofs.ranges.texture_rule.Tie as tie
 
 wide-requires : tie.Need-wide-requires
 wide-requires c κs = search needs

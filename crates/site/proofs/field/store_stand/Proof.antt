@@ -1,8 +1,8 @@
 use borrow.Author.Needs.{needs}
-use Rattle.record.specs.Bytes.{table}
-use Rattle.record.specs.Field.{store}
-use Rattle.record.proofs.store.store_stand.Statement.{statement}
-use Rattle.record.proofs.store.store_stand.Tie as tie
+use Rattle.site.specs.Field.{table, store}
+use Rattle.site.specs.Values.{valueRule}
+use Rattle.site.proofs.field.store_stand.Statement.{statement}
+use Rattle.site.proofs.field.store_stand.Tie as tie
 
 entry-at-requires : tie.Need-entry-at-requires
 entry-at-requires c κs = search needs
@@ -16,12 +16,15 @@ entry-at-requires-3 c κs = search needs
 entry-at-requires-4 : tie.Need-entry-at-requires-4
 entry-at-requires-4 c κs = search needs
 
-cast-s : tie.Need-cast-s
-cast-s c = search needs
+cast-n : tie.Need-cast-n
+cast-n c = search needs
+
+stand-rule-requires : tie.Need-stand-rule-requires
+stand-rule-requires c κs = search needs
 
 returns : tie.Need-returns
-unfolding store table
-returns c = cc
+unfolding store table valueRule
+returns c = record { site = cc; checked = c .stand-rule .ensures }
 
 pub store-stand-spec : {M : Type 1} → statement M
 store-stand-spec =
@@ -31,5 +34,6 @@ store-stand-spec =
     entry-at-requires-2
     entry-at-requires-3
     entry-at-requires-4
-    cast-s
+    cast-n
+    stand-rule-requires
     returns)

@@ -1,7 +1,7 @@
 use borrow.Author.Needs.{needs}
-use Rattle.record.specs.Bytes.{entryAt}
-use Rattle.record.proofs.store.entry_at.Statement.{statement}
-use Rattle.record.proofs.store.entry_at.Tie as tie
+use Rattle.site.specs.Field.{entryAt}
+use Rattle.site.proofs.field.entry_at.Statement.{statement}
+use Rattle.site.proofs.field.entry_at.Tie as tie
 
 byte-requires : tie.Need-byte-requires
 byte-requires c κs = search needs

@@ -1,0 +1,28 @@
+// Bytes and numbers of two bytes, high byte first.
+ghost use mathlib.Core.Path.{_≡_};
+ghost use Prim.Native.Nat.{_≤_};
+ghost use lib.ListN.{getD};
+ghost use Rattle.site.specs.Field.{wordOf, wordAt};
+
+// The byte at i, or 0 past the end.
+pub fn byte(s: &[u8], i: usize) -> u8
+    ensures { λ r. ⌜ r ≡ getD (now (s .entry)) i 0 ⌝ }
+{
+    if i < s.len() {
+        return s[i];
+    }
+    0
+}
+
+pub fn word(hi: u8, lo: u8) -> u16
+    ensures { λ r. ⌜ r ≡ wordOf hi lo ⌝ }
+{
+    256 * (hi as u16) + (lo as u16)
+}
+
+pub fn word_at(s: &[u8], i: usize) -> u16
+    requires { ⌜ i ≤ 14 ⌝ }
+    ensures { λ r. ⌜ r ≡ wordAt (now (s .entry)) i ⌝ }
+{
+    word(byte(s, i), byte(s, i + 1))
+}

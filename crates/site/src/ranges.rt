@@ -1,0 +1,83 @@
+// Rule 8 for the values that are numbers: document 01's ranges.
+ghost use mathlib.Core.Path.{_≡_};
+ghost use Prim.Native.Nat.{_+_};
+ghost use lib.Dec.{leb};
+ghost use Rattle.site.specs.Values.{ranged, between};
+use crate::Checked;
+use crate::numbers::byte_between;
+use crate::numbers::in_range;
+use crate::numbers::wide;
+use crate::numbers::word_between;
+
+pub fn parent_rule(x: u8) -> Checked
+    ensures { λ r. ⌜ r ≡ between 0 4 x ⌝ }
+{
+    byte_between(0, 4, x)
+}
+
+pub fn texture_rule(clay: u8, sand: u8) -> Checked
+    ensures { λ r. ⌜ r ≡ ranged (leb (clay + sand) 100) ⌝ }
+{
+    let sum = wide(clay) + wide(sand);
+    in_range(sum <= 100)
+}
+
+pub fn depth_rule(x: u8) -> Checked
+    ensures { λ r. ⌜ r ≡ between 1 200 x ⌝ }
+{
+    byte_between(1, 200, x)
+}
+
+pub fn drainage_rule(x: u8) -> Checked
+    ensures { λ r. ⌜ r ≡ between 0 5 x ⌝ }
+{
+    byte_between(0, 5, x)
+}
+
+pub fn percolation_rule(x: u16) -> Checked
+    ensures { λ r. ⌜ r ≡ between 1 3000 x ⌝ }
+{
+    word_between(1, 3000, x)
+}
+
+pub fn immobilisation_rule(x: u16) -> Checked
+    ensures { λ r. ⌜ r ≡ between 0 500 x ⌝ }
+{
+    word_between(0, 500, x)
+}
+
+pub fn available_rule(x: u8) -> Checked
+    ensures { λ r. ⌜ r ≡ between 70 85 x ⌝ }
+{
+    byte_between(70, 85, x)
+}
+
+pub fn base_deposition_rule(x: u16) -> Checked
+    ensures { λ r. ⌜ r ≡ between 0 5000 x ⌝ }
+{
+    word_between(0, 5000, x)
+}
+
+pub fn ratio_rule(x: u16) -> Checked
+    ensures { λ r. ⌜ r ≡ between 100 20000 x ⌝ }
+{
+    word_between(100, 20000, x)
+}
+
+pub fn gibbsite_rule(x: u16) -> Checked
+    ensures { λ r. ⌜ r ≡ between 1 10000 x ⌝ }
+{
+    word_between(1, 10000, x)
+}
+
+pub fn ceiling_rule(x: u16) -> Checked
+    ensures { λ r. ⌜ r ≡ between 1 5000 x ⌝ }
+{
+    word_between(1, 5000, x)
+}
+
+pub fn leachate_rule(x: u16) -> Checked
+    ensures { λ r. ⌜ r ≡ between 1 1000 x ⌝ }
+{
+    word_between(1, 1000, x)
+}
