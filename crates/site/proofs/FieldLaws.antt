@@ -2,28 +2,23 @@
 use mathlib.Core.Path.{_≡_}
 use mathlib.Core.Logic.{⊎-elim}
 use mathlib.Core.List.{List, [], _∷_}
-use Prim.Native.Nat.{ℕ, zero, suc, _+_, _≤_, _<_}
+use Prim.Native.Nat.{ℕ, zero, suc, _≤_, _<_}
 use native.Mathlib.Omega.{arith}
-use native.Mathlib.Numerals.{add-one}
-use lib.ListN.{length, getD, drop, List·getD-eq-default}
-use lib.Seq.{drop-cons}
+use lib.ListN.{length, getD, List·getD-eq-default}
 use Rattle.site.specs.declared.Site.{Site}
-use Rattle.site.specs.declared.Rule.{Rule}
-use Rattle.site.specs.declared.Checked.the-variants.{Passed, Broken}
+use Rattle.site.specs.declared.Checked.{Checked}
+use Rattle.site.specs.declared.Checked.the-variants.{Passed}
 use Rattle.site.specs.Refusal.{andThen}
 use Rattle.site.specs.Values.{due, countRule, valueRule}
 use Rattle.site.specs.Check.{fieldsRule, siteRule}
 use Rattle.site.proofs.Tests.{le-or-lt}
 use Rattle.site.proofs.Passing.{both-passed}
 
-module _ (ds : List ℕ) (k : ℕ) (inside : k < length ds) (s : Site) where
-  pub fields-broken : (r : Rule) → andThen (countRule (getD ds k 0) s) (valueRule (getD ds k 0) s) ≡ Broken r → fieldsRule (drop k ds) s ≡ Broken r
-  unfolding fieldsRule andThen
-  fields-broken r e = rw (drop-cons ds k 0, e)
-
-  pub fields-next : andThen (countRule (getD ds k 0) s) (valueRule (getD ds k 0) s) ≡ Passed → fieldsRule (drop k ds) s ≡ fieldsRule (drop (k + 1) ds) s
-  unfolding fieldsRule andThen
-  fields-next e = rw (drop-cons ds k 0, e, add-one)
+-- a field, and the later ones
+pub fields-cons : (t : ℕ) (ts : List ℕ) (s : Site) {x y r : Checked} → x ≡ andThen (countRule t s) (valueRule t s) → y ≡ fieldsRule ts s
+    → r ≡ andThen x y → r ≡ fieldsRule (t ∷ ts) s
+unfolding fieldsRule
+fields-cons t ts s ex ey er = rw (er, ex, ey)
 
 pub field-passed : (ds : List ℕ) (k : ℕ) (s : Site) → k < length ds → fieldsRule ds s ≡ Passed
     → (countRule (getD ds k 0) s ≡ Passed) × (valueRule (getD ds k 0) s ≡ Passed)
