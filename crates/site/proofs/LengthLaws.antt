@@ -107,3 +107,15 @@ no-tag-permitted t n h e =
 
 pub no-tag-counted : (t : ℕ) (s : Site) → (t < 16 → t ≡ 0) → countRule t s ≡ Passed → ⊥
 no-tag-counted t s h e = let p = count-parts t s e in omega (arith, no-items t h)
+
+-- a length is permitted for the tags 1 to 15 alone
+pub permitted-tag : (t n : ℕ) → lengthPermitted t n ≡ true → (1 ≤ t) × (t ≤ 15)
+permitted-tag t n e =
+    ⊎-elim
+    (λ (past : 16 ≤ t). absurd (no-tag-permitted t n (λ h. absurd (omega arith)) e))
+    (λ (below : t < 16).
+    ⊎-elim
+    (λ (some : 1 ≤ t). (some, omega arith))
+    (λ (none : t < 1). absurd (no-tag-permitted t n (λ h. omega arith) e))
+    (le-or-lt 1 t))
+    (le-or-lt 16 t)

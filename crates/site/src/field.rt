@@ -78,14 +78,13 @@ fn store_stand(site: Site, value: &[u8]) -> Taken
     Taken { checked, site: s }
 }
 
-// A field of a permitted length.
-fn store_field(site: Site, tag: u8, value: &[u8]) -> Taken
-    requires { ⌜ lengthPermitted tag (length (now value)) ≡ true ⌝ }
+// Tags 02 to 06: the ground.
+fn store_ground(site: Site, tag: u8, value: &[u8]) -> Taken
+    requires { ⌜ (2 ≤ tag) × (tag ≤ 6) ⌝ }
     ensures { λ r. ⌜ Stored tag (now (value .entry)) site r ⌝ }
 {
     let mut s = site;
     match tag {
-        1 => store_name(site, value),
         2 => {
             let x = byte(value, 0);
             let checked = parent_rule(x);
@@ -118,7 +117,21 @@ fn store_field(site: Site, tag: u8, value: &[u8]) -> Taken
             s.percolation = x;
             Taken { checked, site: s }
         }
-        7 => store_stand(site, value),
+        // no other tag comes here
+        _ => {
+            let checked = Checked::Passed;
+            Taken { checked, site: s }
+        }
+    }
+}
+
+// Tags 08 to 0F: limits and deposition.
+fn store_limits(site: Site, tag: u8, value: &[u8]) -> Taken
+    requires { ⌜ (8 ≤ tag) × (tag ≤ 15) ⌝ }
+    ensures { λ r. ⌜ Stored tag (now (value .entry)) site r ⌝ }
+{
+    let mut s = site;
+    match tag {
         8 => {
             let x = word_at(value, 0);
             let checked = immobilisation_rule(x);
@@ -167,12 +180,29 @@ fn store_field(site: Site, tag: u8, value: &[u8]) -> Taken
             let checked = Checked::Passed;
             Taken { checked, site: s }
         }
-        // no length is permitted for another tag
+        // no other tag comes here
         _ => {
             let checked = Checked::Passed;
             Taken { checked, site: s }
         }
     }
+}
+
+// A field of a permitted length.
+fn store_field(site: Site, tag: u8, value: &[u8]) -> Taken
+    requires { ⌜ lengthPermitted tag (length (now value)) ≡ true ⌝ }
+    ensures { λ r. ⌜ Stored tag (now (value .entry)) site r ⌝ }
+{
+    if tag == 1 {
+        return store_name(site, value);
+    }
+    if tag == 7 {
+        return store_stand(site, value);
+    }
+    if tag < 7 {
+        return store_ground(site, tag, value);
+    }
+    store_limits(site, tag, value)
 }
 
 // Rules 7 to 10 of a field, and the site with its value.
