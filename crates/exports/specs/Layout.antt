@@ -1,13 +1,13 @@
 -- A site value as 50 bytes, in the order of the site's values; numbers of two bytes have the high byte first.
-use Prim.Native.Nat.{ℕ, _+_, _*_}
+use Prim.Native.Nat.{ℕ, _+_}
 use mathlib.Core.List.{List, [], _∷_, _++_}
 use lib.Dec.{eqb}
 use lib.ListN.{getD, length}
 use Rattle.site.specs.Choice.{pick}
 use Rattle.site.specs.Refusal.{andThen}
 use Rattle.site.specs.Check.{siteRule}
+use Rattle.site.specs.Field.{wordAt, entryAt}
 use Rattle.site.specs.declared.Site.{Site}
-use Rattle.site.specs.declared.Entry.{Entry}
 use Rattle.site.specs.declared.Rule.the-variants.{BadLength}
 use Rattle.site.specs.declared.Checked.{Checked}
 use Rattle.site.specs.declared.Checked.the-variants.{Passed, Broken}
@@ -15,12 +15,6 @@ use Rattle.loads.specs.CriticalLoads.{maxS, minN, maxN, nutN}
 use Rattle.judgement.specs.declared.Verdict.{Verdict}
 use Rattle.judgement.specs.declared.Verdict.the-variants.{Within, Over}
 use Rattle.judgement.specs.Verdicts.{verdict, verdictNumbers}
-
-unfoldable pub wordIn : List ℕ → ℕ → ℕ
-wordIn b at = 256 * getD b at 0 + getD b (at + 1) 0
-
-unfoldable pub entryIn : List ℕ → ℕ → Entry
-entryIn b at = record { species = getD b at 0; share = getD b (at + 1) 0; «yield_kg» = wordIn b (at + 2) }
 
 unfoldable pub siteIn : List ℕ → Site
 siteIn b = record {
@@ -31,18 +25,18 @@ siteIn b = record {
   sand = getD b 11 0;
   depth = getD b 12 0;
   drainage = getD b 13 0;
-  percolation = wordIn b 14;
-  stand = entryIn b 16 ∷ entryIn b 20 ∷ entryIn b 24 ∷ entryIn b 28 ∷ [];
+  percolation = wordAt b 14;
+  stand = entryAt b 16 ∷ entryAt b 20 ∷ entryAt b 24 ∷ entryAt b 28 ∷ [];
   entries = getD b 32 0;
-  immobilisation = wordIn b 33;
+  immobilisation = wordAt b 33;
   available = getD b 35 0;
-  «base_deposition» = wordIn b 36;
-  ratio = wordIn b 38;
-  gibbsite = wordIn b 40;
-  ceiling = wordIn b 42;
-  leachate = wordIn b 44;
-  sulphur = wordIn b 46;
-  nitrogen = wordIn b 48;
+  «base_deposition» = wordAt b 36;
+  ratio = wordAt b 38;
+  gibbsite = wordAt b 40;
+  ceiling = wordAt b 42;
+  leachate = wordAt b 44;
+  sulphur = wordAt b 46;
+  nitrogen = wordAt b 48;
 }
 
 -- rule 7 for the length of the bytes, then the rules of the site

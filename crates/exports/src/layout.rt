@@ -1,43 +1,28 @@
 // A site value from its 50 bytes.
 ghost use mathlib.Core.Path.{_≡_};
-ghost use mathlib.Core.List.{[], _∷_};
-ghost use Prim.Native.Nat.{_+_, _*_, _≤_};
-ghost use lib.ListN.{getD};
-ghost use Rattle.exports.specs.Layout.{wordIn, entryIn, siteIn};
+ghost use Prim.Native.Nat.{_≤_};
+ghost use Rattle.site.specs.Field.{wordAt, entryAt};
+ghost use Rattle.exports.specs.Layout.{siteIn};
 use site::Entry;
 use site::Site;
+use site::byte;
+use site::word;
 
-// The byte at i, or 0 past the end.
-fn byte(b: &[u8], i: usize) -> u8
-    ensures { λ r. ⌜ r ≡ getD (now (b .entry)) i 0 ⌝ }
-{
-    if i < b.len() {
-        return b[i];
-    }
-    0
-}
-
-fn join(high: u8, low: u8) -> u16
-    ensures { λ r. ⌜ r ≡ 256 * high + low ⌝ }
-{
-    256 * (high as u16) + (low as u16)
-}
-
-fn word(b: &[u8], at: usize) -> u16
+fn word_in(b: &[u8], at: usize) -> u16
     requires { ⌜ at ≤ 48 ⌝ }
-    ensures { λ r. ⌜ r ≡ wordIn (now (b .entry)) at ⌝ }
+    ensures { λ r. ⌜ r ≡ wordAt (now (b .entry)) at ⌝ }
 {
-    join(byte(b, at), byte(b, at + 1))
+    word(byte(b, at), byte(b, at + 1))
 }
 
 fn entry(b: &[u8], at: usize) -> Entry
     requires { ⌜ at ≤ 28 ⌝ }
-    ensures { λ r. ⌜ r ≡ entryIn (now (b .entry)) at ⌝ }
+    ensures { λ r. ⌜ r ≡ entryAt (now (b .entry)) at ⌝ }
 {
     Entry {
         species: byte(b, at),
         share: byte(b, at + 1),
-        yield_kg: word(b, at + 2),
+        yield_kg: word_in(b, at + 2),
     }
 }
 
@@ -79,17 +64,17 @@ pub fn site_in(b: &[u8]) -> Site
         sand: byte(b, 11),
         depth: byte(b, 12),
         drainage: byte(b, 13),
-        percolation: word(b, 14),
+        percolation: word_in(b, 14),
         stand,
         entries: byte(b, 32),
-        immobilisation: word(b, 33),
+        immobilisation: word_in(b, 33),
         available: byte(b, 35),
-        base_deposition: word(b, 36),
-        ratio: word(b, 38),
-        gibbsite: word(b, 40),
-        ceiling: word(b, 42),
-        leachate: word(b, 44),
-        sulphur: word(b, 46),
-        nitrogen: word(b, 48),
+        base_deposition: word_in(b, 36),
+        ratio: word_in(b, 38),
+        gibbsite: word_in(b, 40),
+        ceiling: word_in(b, 42),
+        leachate: word_in(b, 44),
+        sulphur: word_in(b, 46),
+        nitrogen: word_in(b, 48),
     }
 }

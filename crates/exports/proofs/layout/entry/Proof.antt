@@ -1,4 +1,4 @@
-use Rattle.exports.specs.Layout.{entryIn}
+use Rattle.site.specs.Field.{entryAt}
 use borrow.Author.Needs.{needs}
 use Rattle.exports.proofs.layout.entry.Statement.{statement}
 use Rattle.exports.proofs.layout.entry.Tie as tie
@@ -12,16 +12,17 @@ add-byte c = search needs
 byte-requires-2 : tie.Need-byte-requires-2
 byte-requires-2 c κs = search needs
 
-add-word : tie.Need-add-word
-add-word c = search needs
+add-word-in : tie.Need-add-word-in
+add-word-in c = search needs
 
-word-requires : tie.Need-word-requires
-word-requires c κs = search needs
+word-in-requires : tie.Need-word-in-requires
+word-in-requires c κs = search needs
 
 returns : tie.Need-returns
-unfolding entryIn
+unfolding entryAt
 returns c = cc
 
 pub entry-spec : {M : Type 1} → statement M
 entry-spec =
-    tie.close (tie.spec byte-requires add-byte byte-requires-2 add-word word-requires returns)
+    tie.close
+    (tie.spec byte-requires add-byte byte-requires-2 add-word-in word-in-requires returns)

@@ -27,54 +27,54 @@ byte-requires-5 c κs = search needs
 byte-requires-6 : tie.Need-byte-requires-6
 byte-requires-6 c κs = search needs
 
-word-requires : tie.Need-word-requires
-word-requires c κs = search needs
+word-in-requires : tie.Need-word-in-requires
+word-in-requires c κs = search needs
 
 byte-requires-7 : tie.Need-byte-requires-7
 byte-requires-7 c κs = search needs
 
-word-requires-2 : tie.Need-word-requires-2
-word-requires-2 c κs = search needs
+word-in-requires-2 : tie.Need-word-in-requires-2
+word-in-requires-2 c κs = search needs
 
 byte-requires-8 : tie.Need-byte-requires-8
 byte-requires-8 c κs = search needs
 
-word-requires-3 : tie.Need-word-requires-3
-word-requires-3 c κs = search needs
+word-in-requires-3 : tie.Need-word-in-requires-3
+word-in-requires-3 c κs = search needs
 
-word-requires-4 : tie.Need-word-requires-4
-word-requires-4 c κs = search needs
+word-in-requires-4 : tie.Need-word-in-requires-4
+word-in-requires-4 c κs = search needs
 
-word-requires-5 : tie.Need-word-requires-5
-word-requires-5 c κs = search needs
+word-in-requires-5 : tie.Need-word-in-requires-5
+word-in-requires-5 c κs = search needs
 
-word-requires-6 : tie.Need-word-requires-6
-word-requires-6 c κs = search needs
+word-in-requires-6 : tie.Need-word-in-requires-6
+word-in-requires-6 c κs = search needs
 
-word-requires-7 : tie.Need-word-requires-7
-word-requires-7 c κs = search needs
+word-in-requires-7 : tie.Need-word-in-requires-7
+word-in-requires-7 c κs = search needs
 
-word-requires-8 : tie.Need-word-requires-8
-word-requires-8 c κs = search needs
+word-in-requires-8 : tie.Need-word-in-requires-8
+word-in-requires-8 c κs = search needs
 
-word-requires-9 : tie.Need-word-requires-9
-word-requires-9 c κs = search needs
+word-in-requires-9 : tie.Need-word-in-requires-9
+word-in-requires-9 c κs = search needs
 
 returns : tie.Need-returns
 unfolding siteIn
 returns c =
     rw (
-      c .word9 .ensures,
-      c .before .word8 .ensures,
-      c .before .before .word7 .ensures,
-      c .before .before .before .word6 .ensures,
-      c .before .before .before .before .word5 .ensures,
-      c .before .before .before .before .before .word4 .ensures,
-      c .before .before .before .before .before .before .word3 .ensures,
+      c .word-in9 .ensures,
+      c .before .word-in8 .ensures,
+      c .before .before .word-in7 .ensures,
+      c .before .before .before .word-in6 .ensures,
+      c .before .before .before .before .word-in5 .ensures,
+      c .before .before .before .before .before .word-in4 .ensures,
+      c .before .before .before .before .before .before .word-in3 .ensures,
       c .before .before .before .before .before .before .before .byte8 .ensures,
-      c .before .before .before .before .before .before .before .before .word2 .ensures,
+      c .before .before .before .before .before .before .before .before .word-in2 .ensures,
       c .before .before .before .before .before .before .before .before .before .byte7 .ensures,
-      c .before .before .before .before .before .before .before .before .before .before .word .ensures,
+      c .before .before .before .before .before .before .before .before .before .before .word-in .ensures,
       c .before .before .before .before .before .before .before .before .before .before .before .byte6 .ensures,
       c .before .before .before .before .before .before .before .before .before .before .before .before .byte5 .ensures,
       c .before .before .before .before .before .before .before .before .before .before .before .before .before .byte4 .ensures,
@@ -97,15 +97,15 @@ site-in-spec =
     byte-requires-4
     byte-requires-5
     byte-requires-6
-    word-requires
+    word-in-requires
     byte-requires-7
-    word-requires-2
+    word-in-requires-2
     byte-requires-8
-    word-requires-3
-    word-requires-4
-    word-requires-5
-    word-requires-6
-    word-requires-7
-    word-requires-8
-    word-requires-9
+    word-in-requires-3
+    word-in-requires-4
+    word-in-requires-5
+    word-in-requires-6
+    word-in-requires-7
+    word-in-requires-8
+    word-in-requires-9
     returns)
