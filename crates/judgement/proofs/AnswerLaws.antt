@@ -9,7 +9,6 @@ use Rattle.site.specs.declared.Rule.{Rule}
 use Rattle.site.specs.Refusal.{valuesIf}
 use Rattle.site.specs.declared.Checked.{Checked}
 use Rattle.site.specs.declared.Checked.the-variants.{Passed, Broken}
-use Rattle.site.proofs.BoundsLaw.{bounds}
 use Rattle.loads.specs.CriticalLoads.{loadsOf}
 use Rattle.loads.specs.Nitrogen.{retained}
 use Rattle.loads.specs.declared.Loads.{Loads}
@@ -21,7 +20,7 @@ use Rattle.judgement.specs.declared.JudgementAnswer.the-variants.{Given,
 use Rattle.judgement.specs.Balance.{Closes}
 use Rattle.judgement.specs.Regions.{regionOf, acidOf}
 use Rattle.judgement.specs.Verdicts.{region, acidExceedance, nutrientExceedance, verdictOf, verdict, judgedOf, judgementIf, judgementAnswer, judgedValues, judgementValues}
-use Rattle.judgement.proofs.Demand3.{within-iff-closes}
+use Rattle.judgement.proofs.Demand3.{demand-3}
 
 -- a site that passes the check is judged
 pub given : (s : Site) → siteRule s ≡ Passed → judgementAnswer s ≡ Given (record { loads = loadsOf s; verdict = verdict s (s .sulphur) (s .nitrogen) })
@@ -64,7 +63,7 @@ verdict-by-loads s S N = refl
 module _ (s : Site) (r : JudgementAnswer) (is : r ≡ judgementAnswer s) where
   within : siteRule s ≡ Passed → (r ≡ Given (record { loads = loadsOf s; verdict = Within })) ↔ Closes s (s .sulphur) (s .nitrogen)
   within p =
-      let iff = within-iff-closes s (bounds s p) (s .sulphur) (s .nitrogen) in (
+      let iff = demand-3 s p (s .sulphur) (s .nitrogen) in (
         λ w. iff .0 (verdict-in (sym (given s p) ∙ sym is ∙ w)),
         λ k. is ∙ given s p ∙ ap (λ v. Given (record { loads = loadsOf s; verdict = v })) (iff .1 k),
       )

@@ -9,7 +9,10 @@ use borrow.Author.Tests.{eqb-true}
 use lib.Dec.{eqb}
 use Rattle.site.specs.Choice.{pick}
 use Rattle.site.specs.Bounds.{Bounds}
+use Rattle.site.specs.Check.{siteRule}
 use Rattle.site.specs.declared.Site.{Site}
+use Rattle.site.specs.declared.Checked.the-variants.{Passed}
+use Rattle.site.proofs.BoundsLaw.{bounds}
 use Rattle.loads.specs.Uptake.{nitrogenUptake}
 use Rattle.loads.specs.Hydrogen.{hydrogen, aluminium, greatestLevel}
 use Rattle.loads.specs.Nitrogen.{retained, leaching}
@@ -108,10 +111,14 @@ module _ (s : Site) where
             acid-balance = rw rest (omega (arith, maxS-is s, zero-closes S N (maxS s) (minN s) (retained s) r));
           }
 
-      -- DEMAND 3, for every pair
+      -- demand 3, for every pair
       pub within-iff-closes : (verdict s S N ≡ Within) ↔ Closes s S N
       within-iff-closes =
           let is = verdict-is s S N in (
             λ h. let p = within-needs (region s S N) (acidExceedance s S N) (nutrientExceedance s N) (sym is ∙ h) in judged-closes (p .0) (p .1),
             λ k. let p = closes-judged k in is ∙ within-where (acidExceedance s S N) (p .0) (p .1),
           )
+
+-- the same for every site that passes the check
+pub demand-3 : (s : Site) → siteRule s ≡ Passed → (S N : ℕ) → (verdict s S N ≡ Within) ↔ Closes s S N
+demand-3 s passed S N = within-iff-closes s (bounds s passed) S N

@@ -14,11 +14,9 @@ pub use bytes::byte;
 pub use bytes::word;
 pub use check::check_site;
 pub use field::take_field;
-pub use length::length_permitted;
 pub use numbers::wide;
 pub use numbers::word_between;
 pub use refusal::rule_number;
-pub use value::field_rule;
 
 // The tags 01 to 0F, in the order in which fields are due.
 pub const DUE: [u8; 15] = [1, 2, 3, 4, 5, 6, 7, 8, 9, 10, 11, 12, 13, 14, 15];
