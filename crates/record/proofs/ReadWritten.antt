@@ -102,7 +102,23 @@ module _ (s : Site) (z : Sized s) where
     stored-is-clean =
         let name = take (s .«name_len») (s .name) in
         let es = take (s .entries) (s .stand) in
-        rw (table-pad 8 8 name 0 (omega arith), name-long s z (counts 0 (omega arith)), stand-back 4 es, table-pad 4 4 es noEntry (omega arith), bytes-long s z (counts 6 (omega arith)), quarter, word-back (s .percolation), word-back (s .immobilisation), word-back (s .«base_deposition»), word-back (s .ratio), word-back (s .gibbsite), word-back (s .ceiling), word-back (s .leachate), word-back (s .sulphur), word-back (s .nitrogen))
+        rw (
+          table-pad 8 8 name 0 (omega arith),
+          name-long s z (counts 0 (omega arith)),
+          stand-back 4 es,
+          table-pad 4 4 es noEntry (omega arith),
+          bytes-long s z (counts 6 (omega arith)),
+          quarter,
+          word-back (s .percolation),
+          word-back (s .immobilisation),
+          word-back (s .«base_deposition»),
+          word-back (s .ratio),
+          word-back (s .gibbsite),
+          word-back (s .ceiling),
+          word-back (s .leachate),
+          word-back (s .sulphur),
+          word-back (s .nitrogen),
+        )
 
     pub read-encode : (at : ℕ) → walk due blankSite (encodeFields due s) at ≡ accepted (clean s)
     read-encode at = walk-encode due s blankSite at all-good ∙ ap accepted stored-is-clean

@@ -91,14 +91,14 @@ pub parts-counted : (t : ℕ) (s : Site) → 1 ≤ itemCount t s → itemCount t
 unfolding countRule
 parts-counted t s some most = rw (le-leb _ _ some, le-leb _ _ most)
 
--- a tag that is none of 1 to 15
+-- a tag that is none of 1 to 15 has items of width 1, and none of them
 pub no-items : (t : ℕ) → (t < 16 → t ≡ 0) → getD mostItems t 0 ≡ 0
 no-items t h = ⊎-elim (λ (past : 16 ≤ t). rw List·getD-eq-default) (λ below. rw (h below)) (le-or-lt 16 t)
 
 pub one-width : (t : ℕ) → (t < 16 → t ≡ 0) → getD itemWidths t 1 ≡ 1
 one-width t h = ⊎-elim (λ (past : 16 ≤ t). rw List·getD-eq-default) (λ below. rw (h below)) (le-or-lt 16 t)
 
--- has no items, so no length and no count is permitted
+-- so it has no permitted length and no permitted count
 pub no-tag-permitted : (t n : ℕ) → (t < 16 → t ≡ 0) → lengthPermitted t n ≡ true → ⊥
 no-tag-permitted t n h e =
     let p = permitted-parts t n e in

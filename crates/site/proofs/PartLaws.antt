@@ -1,5 +1,5 @@
 -- Laws of loops over the first n elements of a list.
-use mathlib.Core.Path.{_≡_, refl}
+use mathlib.Core.Path.{_≡_}
 use mathlib.Core.Bool.{Bool, true, false}
 use mathlib.Core.List.{List, [], _∷_}
 use Prim.Native.Nat.{ℕ, zero, suc, _+_, _≤_, _<_}
@@ -45,9 +45,3 @@ module _ {ℓ} {A : Type ℓ} where
   all-getD f [] i d p e = p
   all-getD f (x ∷ l) zero d p e = and-l (f x) (allOf f l) e
   all-getD f (x ∷ l) (suc i) d p e = all-getD f l i d p (and-r (f x) (allOf f l) e)
-
-  -- below the length the default does not matter
-  pub getD-within : (l : List A) (i : ℕ) (d e : A) → i < length l → getD l i d ≡ getD l i e
-  getD-within [] i d e h = absurd (omega arith)
-  getD-within (x ∷ l) zero d e h = refl
-  getD-within (x ∷ l) (suc i) d e h = getD-within l i d e (omega arith)

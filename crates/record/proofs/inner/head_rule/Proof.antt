@@ -21,11 +21,23 @@ stated-len-requires c κs = search needs
 
 returns-3 : tie.Need-returns-3
 unfolding headRule
-returns-3 c = rw (ne-eqb _ _ (c .before .before .before .before .before .if1 .left), le-ltb _ _ (c .before .before .before .before .if2 .left), eq-eqb _ _ (c .before .before .if3 .taken), sym (c .before .stated-len .ensures .0), lt-ltb _ _ (c .if4 .taken))
+returns-3 c = rw (
+  ne-eqb _ _ (c .before .before .before .before .before .if1 .left),
+  le-ltb _ _ (c .before .before .before .before .if2 .left),
+  eq-eqb _ _ (c .before .before .if3 .taken),
+  sym (c .before .stated-len .ensures .0),
+  lt-ltb _ _ (c .if4 .taken),
+)
 
 returns-4 : tie.Need-returns-4
 unfolding headRule
-returns-4 c = rw (ne-eqb _ _ (c .before .before .before .before .before .if1 .left), le-ltb _ _ (c .before .before .before .before .if2 .left), eq-eqb _ _ (c .before .before .if3 .taken), sym (c .before .stated-len .ensures .0), le-ltb _ _ (c .if4 .left))
+returns-4 c = rw (
+  ne-eqb _ _ (c .before .before .before .before .before .if1 .left),
+  le-ltb _ _ (c .before .before .before .before .if2 .left),
+  eq-eqb _ _ (c .before .before .if3 .taken),
+  sym (c .before .stated-len .ensures .0),
+  le-ltb _ _ (c .if4 .left),
+)
 
 returns-5 : tie.Need-returns-5
 unfolding headRule

@@ -17,15 +17,32 @@ stated-len-requires c κs = search needs
 
 returns-2 : tie.Need-returns-2
 unfolding outerRule
-returns-2 c = rw (le-ltb _ _ (c .before .before .before .before .if1 .left), eq-eqb _ _ (c .before .before .if2 .taken), sym (c .before .stated-len .ensures .0), lt-ltb _ _ (c .if3 .taken))
+returns-2 c = rw (
+  le-ltb _ _ (c .before .before .before .before .if1 .left),
+  eq-eqb _ _ (c .before .before .if2 .taken),
+  sym (c .before .stated-len .ensures .0),
+  lt-ltb _ _ (c .if3 .taken),
+)
 
 returns-3 : tie.Need-returns-3
 unfolding outerRule
-returns-3 c = rw (le-ltb _ _ (c .before .before .before .before .before .if1 .left), eq-eqb _ _ (c .before .before .before .if2 .taken), sym (c .before .before .stated-len .ensures .0), le-ltb _ _ (c .before .if3 .left), lt-ltb _ _ (c .if4 .taken))
+returns-3 c = rw (
+  le-ltb _ _ (c .before .before .before .before .before .if1 .left),
+  eq-eqb _ _ (c .before .before .before .if2 .taken),
+  sym (c .before .before .stated-len .ensures .0),
+  le-ltb _ _ (c .before .if3 .left),
+  lt-ltb _ _ (c .if4 .taken),
+)
 
 returns-4 : tie.Need-returns-4
 unfolding outerRule
-returns-4 c = rw (le-ltb _ _ (c .before .before .before .before .before .if1 .left), eq-eqb _ _ (c .before .before .before .if2 .taken), sym (c .before .before .stated-len .ensures .0), le-ltb _ _ (c .before .if3 .left), le-ltb _ _ (c .if4 .left))
+returns-4 c = rw (
+  le-ltb _ _ (c .before .before .before .before .before .if1 .left),
+  eq-eqb _ _ (c .before .before .before .if2 .taken),
+  sym (c .before .before .stated-len .ensures .0),
+  le-ltb _ _ (c .before .if3 .left),
+  le-ltb _ _ (c .if4 .left),
+)
 
 returns-5 : tie.Need-returns-5
 unfolding outerRule

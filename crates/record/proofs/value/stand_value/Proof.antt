@@ -61,7 +61,17 @@ returns c =
     let s = c .before .before .before .before .before .before .before .before .before .before .before .before .before in
     let z = stand-len s in
     let h : s .args .n ≤ 4 = s .pre in
-    rw (c .before .before .before .before .before .before .before .before .wide .ensures .0, c .before .before .before .before .before .before .before .hi .ensures, c .before .before .before .before .before .before .lo .ensures, c .before .before .before .before .before .hi2 .ensures, c .before .before .before .before .lo2 .ensures, c .before .before .before .hi3 .ensures, c .before .before .lo3 .ensures, c .before .hi4 .ensures, c .lo4 .ensures)
+    rw (
+      c .before .before .before .before .before .before .before .before .wide .ensures .0,
+      c .before .before .before .before .before .before .before .hi .ensures,
+      c .before .before .before .before .before .before .lo .ensures,
+      c .before .before .before .before .before .hi2 .ensures,
+      c .before .before .before .before .lo2 .ensures,
+      c .before .before .before .hi3 .ensures,
+      c .before .before .lo3 .ensures,
+      c .before .hi4 .ensures,
+      c .lo4 .ensures,
+    )
     (record { first = stand-value (s .args .t1) (s .args .n) z; long = rw length-entries (simp length-take (omega arith)); small = omega arith })
 
 pub stand-value-spec : {M : Type 1} → statement M

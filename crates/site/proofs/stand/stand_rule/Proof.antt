@@ -18,13 +18,22 @@ returns : tie.Need-returns
 unfolding standRule
 returns c =
     let r = c .before .before .before .before .before in
-    rw (sym (r .entries-ranged .ensures) ∙ c .before .before .before .before .if1 .taken, sym (c .before .before .before .species-rise .ensures) ∙ c .before .before .if2 .taken, sym (c .before .share-sum .ensures) ∙ c .if3 .taken)
+    rw (
+      sym (r .entries-ranged .ensures) ∙ c .before .before .before .before .if1 .taken,
+      sym (c .before .before .before .species-rise .ensures) ∙ c .before .before .if2 .taken,
+      sym (c .before .share-sum .ensures) ∙ c .if3 .taken,
+    )
 
 returns-2 : tie.Need-returns-2
 unfolding standRule
 returns-2 c =
     let r = c .before .before .before .before .before in
-    rw (sym (r .entries-ranged .ensures) ∙ c .before .before .before .before .if1 .taken, sym (c .before .before .before .species-rise .ensures) ∙ c .before .before .if2 .taken, sym (c .before .share-sum .ensures), ne-eqb _ _ (c .if3 .left))
+    rw (
+      sym (r .entries-ranged .ensures) ∙ c .before .before .before .before .if1 .taken,
+      sym (c .before .before .before .species-rise .ensures) ∙ c .before .before .if2 .taken,
+      sym (c .before .share-sum .ensures),
+      ne-eqb _ _ (c .if3 .left),
+    )
 
 returns-3 : tie.Need-returns-3
 unfolding standRule
