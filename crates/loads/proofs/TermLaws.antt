@@ -99,7 +99,9 @@ pub record TermBounds (s : Site) : Type 0 where
   pub weathering-le : weathering s ≤ 19500
   pub available-part : availableWeathering s ≤ weathering s
   pub available-le : availableWeathering s ≤ 16575
+  -- B + w − Bu and B + W − Bu are not cut off
   pub uptake-part : baseUptake s ≤ (s .«base_deposition») + availableWeathering s
+  pub supply-part : baseUptake s ≤ (s .«base_deposition») + weathering s
   pub limit-le : aluminiumLimit s ≤ 323625
   pub hydrogen-le : hydrogen s (greatestLevel s) ≤ 15000
   pub aluminium-le : aluminium s (greatestLevel s) ≤ 323625
@@ -122,6 +124,9 @@ module _ (s : Site) (b : Bounds s) where
       let p : weathering s * (s .available) ≤ 1657500 = mul-le-mul weathered (b .available) in
       omega (arith, available-is s)
 
+  available-within : availableWeathering s ≤ weathering s
+  available-within = rw (available-is s) (part-le (weathering s) (s .available) (omega (arith, b .available)))
+
   taken : baseUptake s ≤ (s .«base_deposition») + availableWeathering s
   taken = omega (arith, baseUptake-is s)
 
@@ -141,9 +146,10 @@ module _ (s : Site) (b : Bounds s) where
   pub term-bounds : TermBounds s
   term-bounds = record {
     weathering-le = weathered;
-    available-part = rw (available-is s) (part-le (weathering s) (s .available) (omega (arith, b .available)));
+    available-part = available-within;
     available-le = available;
     uptake-part = taken;
+    supply-part = omega (arith, taken, available-within);
     limit-le = limited;
     hydrogen-le = leached;
     aluminium-le = omega (arith, greatest-limit s, limited);

@@ -1,4 +1,5 @@
--- The four loads of a site, and what the call answers.
+-- The four loads of a site, and what the call answers. No difference of the terms is cut off at a site that passes the check:
+-- `TermBounds` in `proofs/TermLaws.antt`, and for class k and d the rules of their tables in `proofs/Tables.antt`.
 use Prim.Native.Nat.{ℕ, _+_, _*_, _-_, _/_}
 use mathlib.Core.List.{List, [], _∷_}
 use Rattle.site.specs.declared.Site.{Site}
