@@ -5,8 +5,6 @@ use mathlib.Core.List.{List}
 use native.Mathlib.Omega.{arith}
 use lib.ListN.{length}
 use Rattle.site.specs.Check.{siteRule}
-use Rattle.site.specs.Refusal.{andThen}
-use Rattle.site.specs.declared.Site.{Site}
 use Rattle.site.specs.declared.Rule.{Rule}
 use Rattle.site.specs.declared.Checked.{Checked}
 use Rattle.site.specs.declared.Checked.the-variants.{Passed, Broken}
@@ -15,10 +13,11 @@ use Rattle.record.specs.declared.Outcome.the-variants.{Accepted, Refused}
 use Rattle.record.specs.declared.Written.{Written}
 use Rattle.record.specs.declared.Written.the-variants.{Wrote, Refused as NotWritten}
 use Rattle.record.specs.Outer.{readRecord}
-use Rattle.record.specs.Writer.{encode, writeRule, answerOf, bufferOf}
-use Rattle.record.proofs.Parsed.{accepted-is}
-use Rattle.record.proofs.RoundTrip.{read-passes}
-use Rattle.exports.specs.Results.{refusalCode, roomRule, codeIf, rewriteCode, rewriteHeld}
+use Rattle.record.specs.Writer.{encode, writeRule, answerOf}
+use Rattle.output.specs.Output.{roomRule, heldAfter}
+use Rattle.output.proofs.OutputLaws.{output-room}
+use Rattle.record.proofs.RoundTrip.{accepted-is, read-passes}
+use Rattle.exports.specs.Results.{refusalCode, codeIf, rewriteCode, rewriteHeld}
 
 -- a writing's answer as a code
 refused-code : (c : Checked) (n : ℕ) (r : Rule) → answerOf c n ≡ NotWritten r → refusalCode r 0 ≡ codeIf c n
@@ -30,10 +29,6 @@ wrote-code : (c : Checked) (n k : ℕ) → answerOf c n ≡ Wrote k → k ≡ co
 unfolding answerOf codeIf
 wrote-code Passed n k e = cc
 wrote-code (Broken r) n k e = let z : _≡_ {A = ℕ} 0 1 = cc in absurd (omega arith)
-
-room-left : (s : Site) (n : ℕ) → siteRule s ≡ Passed → writeRule s n ≡ roomRule (length (encode s)) n
-unfolding writeRule andThen roomRule
-room-left s n e = rw e
 
 module _ (b old : List ℕ) (r : Read) (is : r ≡ readRecord b) where
   outcome-is : readRecord b .outcome ≡ r .outcome
@@ -48,14 +43,14 @@ module _ (b old : List ℕ) (r : Read) (is : r ≡ readRecord b) where
 
   module _ (o : r .outcome ≡ Accepted) (again : encode (r .site) ≡ b) (w : Written) (new : List ℕ)
       (answer : w ≡ answerOf (writeRule (r .site) (length old)) (length (encode (r .site))))
-      (held : new ≡ bufferOf (writeRule (r .site) (length old)) (encode (r .site)) old) where
+      (held : new ≡ heldAfter (writeRule (r .site) (length old)) (encode (r .site)) old) where
     room : writeRule (r .site) (length old) ≡ roomRule (length b) (length old)
-    room = room-left (r .site) (length old) (read-passes (r .site) b (sym is ∙ accepted-is r o)) ∙ ap (λ xs. roomRule (length xs) (length old)) again
+    room = output-room _ _ (siteRule (r .site)) (read-passes (r .site) b (sym is ∙ accepted-is r o)) ∙ ap (λ xs. roomRule (length xs) (length old)) again
 
     answer-room : w ≡ answerOf (roomRule (length b) (length old)) (length b)
     answer-room = rw (room, again) at answer
 
-    held-room : new ≡ bufferOf (roomRule (length b) (length old)) b old
+    held-room : new ≡ heldAfter (roomRule (length b) (length old)) b old
     held-room = rw (room, again) at held
 
     -- a buffer that is too short, and success

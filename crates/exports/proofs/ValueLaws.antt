@@ -1,21 +1,30 @@
 -- The check of a site value's bytes, and what the calls promise, by the way that they end.
 use Prim.Native.Nat.{ℕ, _≤_, _<_}
 use mathlib.Core.Path.{_≡_, refl}
-use mathlib.Core.List.{List, [], _∷_, _++_}
-use lib.ListN.{length, drop, getD, set}
-use borrow.Author.Tests.{eq-eqb, ne-eqb, le-leb, lt-leb}
+use mathlib.Core.List.{List, _++_}
+use native.Mathlib.Omega.{arith}
+use lib.ListN.{length, drop, getD}
+use borrow.Author.Tests.{eq-eqb, ne-eqb}
 use Rattle.site.specs.Refusal.{andThen}
 use Rattle.site.specs.Check.{siteRule}
 use Rattle.site.specs.declared.Rule.{Rule}
 use Rattle.site.specs.declared.Rule.the-variants.{BadLength, BufferShort}
 use Rattle.site.specs.declared.Checked.the-variants.{Passed, Broken}
+use Rattle.site.specs.declared.Site.{Site}
+use Rattle.site.proofs.Passing.{both-passed}
+use Rattle.loads.specs.SiteTerms.{termsOf}
 use Rattle.judgement.specs.declared.Verdict.{Verdict}
 use Rattle.judgement.specs.declared.Verdict.the-variants.{Within, Over}
-use Rattle.judgement.specs.Verdicts.{verdictNumbers}
-use Rattle.record.specs.Writer.{bufferOf}
-use Rattle.exports.specs.Results.{refusalCode, roomRule, codeIf}
-use Rattle.exports.specs.Layout.{siteIn, valueCheck, markNumber, verdictMarked}
-use Rattle.exports.proofs.ResultLaws.{eight}
+use Rattle.judgement.specs.Verdicts.{verdict, verdictNumbers}
+use Rattle.judgement.specs.Balance.{Marks}
+use Rattle.judgement.proofs.Demand3.{verdict-tells}
+use Rattle.judgement.proofs.AtSites.{site-bounds}
+use Rattle.output.specs.Output.{outputRule, heldAfter}
+use Rattle.output.specs.Writing.{Wrote}
+use Rattle.output.proofs.WriteLaws.{in-front}
+use Rattle.output.proofs.OutputLaws.{output-broken, output-short, output-whole}
+use Rattle.exports.specs.Results.{refusalCode, codeIf}
+use Rattle.exports.specs.Layout.{siteIn, valueCheck, loadsNumbers, markNumber, verdictMarked, judgementNumbers}
 
 module _ (b : List ℕ) where
   pub wrong-length : (length b ≡ 50 → ⊥) → valueCheck b ≡ Broken BadLength
@@ -28,31 +37,61 @@ module _ (b : List ℕ) where
 
   -- a refusal of the value
   pub refused : (r : Rule) (needed : ℕ) (xs old : List ℕ) → valueCheck b ≡ Broken r
-      → (refusalCode r 0 ≡ codeIf (andThen (valueCheck b) (roomRule needed (length old))) needed)
-      × (old ≡ bufferOf (andThen (valueCheck b) (roomRule needed (length old))) xs old)
-  unfolding andThen codeIf bufferOf
-  refused r needed xs old e = rw e (refl, refl)
+      → (refusalCode r 0 ≡ codeIf (outputRule (valueCheck b) needed (length old)) needed)
+      × (old ≡ heldAfter (outputRule (valueCheck b) needed (length old)) xs old)
+  unfolding codeIf heldAfter
+  refused r needed xs old e = rw (output-broken needed (length old) (valueCheck b) r e) (refl, refl)
 
   -- a slice that is too short
   pub short : (needed : ℕ) (xs old : List ℕ) → valueCheck b ≡ Passed → length old < needed
-      → (refusalCode BufferShort 0 ≡ codeIf (andThen (valueCheck b) (roomRule needed (length old))) needed)
-      × (old ≡ bufferOf (andThen (valueCheck b) (roomRule needed (length old))) xs old)
-  unfolding andThen codeIf bufferOf roomRule
-  short needed xs old e h = rw (e, lt-leb needed (length old) h) (refl, refl)
+      → (refusalCode BufferShort 0 ≡ codeIf (outputRule (valueCheck b) needed (length old)) needed)
+      × (old ≡ heldAfter (outputRule (valueCheck b) needed (length old)) xs old)
+  unfolding codeIf heldAfter
+  short needed xs old e h = rw (output-short needed (length old) (valueCheck b) e h) (refl, refl)
 
   -- success
-  pub written : (needed : ℕ) (xs old new : List ℕ) → valueCheck b ≡ Passed → needed ≤ length old → new ≡ xs ++ drop (length xs) old
-      → (needed ≡ codeIf (andThen (valueCheck b) (roomRule needed (length old))) needed)
-      × (new ≡ bufferOf (andThen (valueCheck b) (roomRule needed (length old))) xs old)
-  unfolding andThen codeIf bufferOf roomRule
-  written needed xs old new e h q = rw (e, le-leb needed (length old) h) (refl, q)
+  pub written : {r : ℕ} (needed : ℕ) (xs old new : List ℕ) → valueCheck b ≡ Passed → length xs ≡ needed → needed ≤ length old → Wrote old 0 xs new r
+      → (needed ≡ codeIf (outputRule (valueCheck b) needed (length old)) needed)
+      × (new ≡ heldAfter (outputRule (valueCheck b) needed (length old)) xs old)
+  unfolding codeIf heldAfter
+  written needed xs old new e l h w = rw (output-whole needed (length old) (valueCheck b) e h) (refl, in-front w (omega arith) .1)
 
--- four loads and the four numbers of a verdict, stored at the front
-pub stored-eight :
-    (a b c d : ℕ) (v : Verdict) (ms old mid new : List ℕ) → ms ≡ verdictMarked v → 8 ≤ length old
-    → mid ≡ set (set (set (set old 0 a) 1 b) 2 c) 3 d
-    → new ≡ set (set (set (set mid 4 (getD ms 0 0)) 5 (getD ms 1 0)) 6 (getD ms 2 0)) 7 (getD ms 3 0)
-    → new ≡ ((a ∷ b ∷ c ∷ d ∷ []) ++ verdictMarked v) ++ drop (length ((a ∷ b ∷ c ∷ d ∷ []) ++ verdictMarked v)) old
+pub length-marked : (v : Verdict) → length (verdictMarked v) ≡ 4
+unfolding verdictMarked verdictNumbers
+length-marked Within = refl
+length-marked (Over r x y) = refl
+
+pub length-judged : (s : Site) → length (judgementNumbers s) ≡ 8
+unfolding judgementNumbers loadsNumbers
+length-judged s = omega (arith, length-marked (verdict (termsOf s) (s .sulphur) (s .nitrogen)))
+
+-- ---- demand 3 of the mark
+
+mark-tells : (s : Site) → siteRule s ≡ Passed → Marks (markNumber (verdict (termsOf s) (s .sulphur) (s .nitrogen))) s
+unfolding markNumber
+mark-tells s p = verdict-tells (termsOf s) (site-bounds s p) (s .sulphur) (s .nitrogen) markNumber refl (λ r a n. refl) (λ e. omega arith)
+
+site-passes : (b : List ℕ) → valueCheck b ≡ Passed → siteRule (siteIn b) ≡ Passed
+unfolding valueCheck
+site-passes b e = both-passed _ _ e .1
+
+mark-at : (v : Verdict) (rest : List ℕ) → getD (verdictMarked v ++ rest) 3 0 ≡ markNumber v
 unfolding verdictMarked verdictNumbers markNumber
-stored-eight a b c d Within ms old mid new e h p q = rw (q, p, e) (eight a b c d 0 0 0 0 old h)
-stored-eight a b c d (Over r x y) ms old mid new e h p q = rw (q, p, e) (eight a b c d _ _ _ _ old h)
+mark-at Within rest = refl
+mark-at (Over g x y) rest = refl
+
+module _ (b old new : List ℕ) where
+  mark-is :
+      new ≡ heldAfter (outputRule (valueCheck b) 8 (length old)) (judgementNumbers (siteIn b)) old
+      → valueCheck b ≡ Passed → 8 ≤ length old
+      → getD new 7 0 ≡ markNumber (verdict (termsOf (siteIn b)) (siteIn b .sulphur) (siteIn b .nitrogen))
+  unfolding heldAfter judgementNumbers loadsNumbers
+  mark-is e p l =
+      let q : new ≡ judgementNumbers (siteIn b) ++ drop (length (judgementNumbers (siteIn b))) old = rw (output-whole 8 (length old) (valueCheck b) p l) at e in
+      rw q (mark-at (verdict (termsOf (siteIn b)) (siteIn b .sulphur) (siteIn b .nitrogen)) (drop (length (judgementNumbers (siteIn b))) old))
+
+  pub with-marks : {A : Type 0}
+      → A × (new ≡ heldAfter (outputRule (valueCheck b) 8 (length old)) (judgementNumbers (siteIn b)) old)
+      → A × ((new ≡ heldAfter (outputRule (valueCheck b) 8 (length old)) (judgementNumbers (siteIn b)) old)
+      × (valueCheck b ≡ Passed → 8 ≤ length old → Marks (getD new 7 0) (siteIn b)))
+  with-marks x = (x .0, (x .1, λ p l. rw (mark-is (x .1) p l) (mark-tells (siteIn b) (site-passes b p))))

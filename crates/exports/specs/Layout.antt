@@ -6,11 +6,13 @@ use lib.ListN.{getD, length}
 use Rattle.site.specs.Choice.{pick}
 use Rattle.site.specs.Refusal.{andThen}
 use Rattle.site.specs.Check.{siteRule}
-use Rattle.site.specs.Field.{wordAt, entryAt}
+use Rattle.site.specs.Bytes.{wordAt}
+use Rattle.field.specs.Field.{entryAt}
 use Rattle.site.specs.declared.Site.{Site}
 use Rattle.site.specs.declared.Rule.the-variants.{BadLength}
 use Rattle.site.specs.declared.Checked.{Checked}
 use Rattle.site.specs.declared.Checked.the-variants.{Passed, Broken}
+use Rattle.loads.specs.SiteTerms.{termsOf}
 use Rattle.loads.specs.CriticalLoads.{maxS, minN, maxN, nutN}
 use Rattle.judgement.specs.declared.Verdict.{Verdict}
 use Rattle.judgement.specs.declared.Verdict.the-variants.{Within, Over}
@@ -44,7 +46,7 @@ unfoldable pub valueCheck : List ℕ → Checked
 valueCheck b = andThen (pick (eqb (length b) 50) Passed (Broken BadLength)) (siteRule (siteIn b))
 
 unfoldable pub loadsNumbers : Site → List ℕ
-loadsNumbers s = maxS s ∷ minN s ∷ maxN s ∷ nutN s ∷ []
+loadsNumbers s = maxS (termsOf s) ∷ minN (termsOf s) ∷ maxN (termsOf s) ∷ nutN (termsOf s) ∷ []
 
 -- 0 within, 1 over
 unfoldable pub markNumber : Verdict → ℕ
@@ -55,4 +57,4 @@ unfoldable pub verdictMarked : Verdict → List ℕ
 verdictMarked v = verdictNumbers v ++ (markNumber v ∷ [])
 
 unfoldable pub judgementNumbers : Site → List ℕ
-judgementNumbers s = loadsNumbers s ++ verdictMarked (verdict s (s .sulphur) (s .nitrogen))
+judgementNumbers s = loadsNumbers s ++ verdictMarked (verdict (termsOf s) (s .sulphur) (s .nitrogen))

@@ -1,27 +1,20 @@
 -- What the C interface gives back.
 use Prim.Native.Nat.{ℕ, _+_, _*_, _%_}
 use mathlib.Core.List.{List}
-use lib.Dec.{leb}
 use lib.ListN.{length}
-use Rattle.site.specs.Choice.{pick}
 use Rattle.site.specs.Refusal.{ruleNumber}
 use Rattle.site.specs.declared.Rule.{Rule}
-use Rattle.site.specs.declared.Rule.the-variants.{BufferShort}
 use Rattle.site.specs.declared.Checked.{Checked}
 use Rattle.site.specs.declared.Checked.the-variants.{Passed, Broken}
 use Rattle.record.specs.declared.Outcome.{Outcome}
 use Rattle.record.specs.declared.Outcome.the-variants.{Accepted, Refused}
-use Rattle.record.specs.Writer.{bufferOf}
+use Rattle.output.specs.Output.{roomRule, held}
 use Rattle.text.specs.declared.Listed.{Listed}
 use Rattle.text.specs.declared.Listed.the-variants.{Bytes, Refused as NotListed}
 
 -- rule number × 2³² + offset
 unfoldable pub refusalCode : Rule → ℕ → ℕ
 refusalCode r at = ruleNumber r * 4294967296 + at % 4294967296
-
--- rule 11, where `needed` elements are to be written into a slice of n
-unfoldable pub roomRule : (needed n : ℕ) → Checked
-roomRule needed n = pick (leb needed n) Passed (Broken BufferShort)
 
 -- the count of elements, or the refusal
 unfoldable pub codeIf : Checked → ℕ → ℕ
@@ -35,7 +28,7 @@ rewriteCode Accepted b old = codeIf (roomRule (length b) (length old)) (length b
 
 unfoldable pub rewriteHeld : Outcome → (bytes old : List ℕ) → List ℕ
 rewriteHeld (Refused r at) b old = old
-rewriteHeld Accepted b old = bufferOf (roomRule (length b) (length old)) b old
+rewriteHeld Accepted b old = held b old
 
 -- a listing: the count of bytes, or the refusal
 unfoldable pub listedCode : Listed → ℕ

@@ -1,7 +1,8 @@
 // The listing and the report of a file.
 ghost use mathlib.Core.Path.{_≡_};
-ghost use Rattle.text.specs.Answer.{answer, held};
-ghost use Rattle.listing.specs.File.{contents};
+ghost use Rattle.output.specs.Output.{held};
+ghost use Rattle.text.specs.Answer.{answer};
+ghost use Rattle.record.specs.File.{contents};
 ghost use Rattle.listing.specs.Listing.{listAnswer, listHeld, reportOf};
 ghost use Rattle.listing.specs.Demand3.{Written3};
 ghost use Rattle.exports.specs.Results.{listedCode};
@@ -33,6 +34,7 @@ pub extern "C" fn forest_list(file: &[u8], out: &mut [u8]) -> u64
 pub extern "C" fn forest_report(file: &[u8], out: &mut [u8]) -> u64
     ensures answer { λ r. ⌜ r ≡ listedCode (answer (reportOf (now (file .entry))) (now (out .entry))) ⌝ }
     ensures buffer { λ _. ⌜ now (out .exit) ≡ held (reportOf (now (file .entry))) (now (out .entry)) ⌝ }
+    ensures demand3 { λ _. ⌜ Written3 (now (file .entry)) (now (out .exit)) (answer (reportOf (now (file .entry))) (now (out .entry))) ⌝ }
 {
     let listed = report(file, out);
     listed_code(listed)

@@ -1,19 +1,12 @@
 // A site value from its 50 bytes.
 ghost use mathlib.Core.Path.{_≡_};
 ghost use Prim.Native.Nat.{_≤_};
-ghost use Rattle.site.specs.Field.{wordAt, entryAt};
+ghost use Rattle.field.specs.Field.{entryAt};
 ghost use Rattle.exports.specs.Layout.{siteIn};
 use site::Entry;
 use site::Site;
 use site::byte;
-use site::word;
-
-fn word_in(b: &[u8], at: usize) -> u16
-    requires { ⌜ at ≤ 48 ⌝ }
-    ensures { λ r. ⌜ r ≡ wordAt (now (b .entry)) at ⌝ }
-{
-    word(byte(b, at), byte(b, at + 1))
-}
+use site::word_at;
 
 fn entry(b: &[u8], at: usize) -> Entry
     requires { ⌜ at ≤ 28 ⌝ }
@@ -22,7 +15,7 @@ fn entry(b: &[u8], at: usize) -> Entry
     Entry {
         species: byte(b, at),
         share: byte(b, at + 1),
-        yield_kg: word_in(b, at + 2),
+        yield_kg: word_at(b, at + 2),
     }
 }
 
@@ -64,17 +57,17 @@ pub fn site_in(b: &[u8]) -> Site
         sand: byte(b, 11),
         depth: byte(b, 12),
         drainage: byte(b, 13),
-        percolation: word_in(b, 14),
+        percolation: word_at(b, 14),
         stand,
         entries: byte(b, 32),
-        immobilisation: word_in(b, 33),
+        immobilisation: word_at(b, 33),
         available: byte(b, 35),
-        base_deposition: word_in(b, 36),
-        ratio: word_in(b, 38),
-        gibbsite: word_in(b, 40),
-        ceiling: word_in(b, 42),
-        leachate: word_in(b, 44),
-        sulphur: word_in(b, 46),
-        nitrogen: word_in(b, 48),
+        base_deposition: word_at(b, 36),
+        ratio: word_at(b, 38),
+        gibbsite: word_at(b, 40),
+        ceiling: word_at(b, 42),
+        leachate: word_at(b, 44),
+        sulphur: word_at(b, 46),
+        nitrogen: word_at(b, 48),
     }
 }

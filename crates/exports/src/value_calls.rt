@@ -1,10 +1,12 @@
 // Check, loads and judgement of a site value.
 ghost use mathlib.Core.Path.{_≡_};
 ghost use Prim.Native.Nat.{_+_, _≤_};
-ghost use lib.ListN.{length, getD, set};
-ghost use Rattle.site.specs.Refusal.{andThen};
-ghost use Rattle.record.specs.Writer.{bufferOf};
-ghost use Rattle.exports.specs.Results.{roomRule, codeIf};
+ghost use lib.ListN.{length, getD};
+ghost use Rattle.site.specs.declared.Checked.the-variants.{Passed};
+ghost use Rattle.judgement.specs.Balance.{Marks};
+ghost use Rattle.output.specs.Output.{outputRule, heldAfter};
+ghost use Rattle.output.specs.Writing.{Wrote};
+ghost use Rattle.exports.specs.Results.{codeIf};
 ghost use Rattle.exports.specs.Layout.{siteIn, valueCheck, loadsNumbers, judgementNumbers, verdictMarked};
 use crate::codes::refused;
 use crate::layout::site_in;
@@ -34,7 +36,7 @@ pub extern "C" fn forest_check(site: &[u8]) -> u64
 // Four numbers from place `at` on.
 fn put_four(out: &mut [u64], at: usize, ns: [u64; 4])
     requires { ⌜ at + 4 ≤ length (now out) ⌝ }
-    ensures { λ _. ⌜ now (out .exit) ≡ set (set (set (set (now (out .entry)) at (getD ns 0 0)) (at + 1) (getD ns 1 0)) (at + 2) (getD ns 2 0)) (at + 3) (getD ns 3 0) ⌝ }
+    ensures { λ _. ⌜ Wrote (now (out .entry)) at ns (now (out .exit)) (at + 4) ⌝ }
 {
     out[at] = ns[0];
     out[at + 1] = ns[1];
@@ -44,8 +46,8 @@ fn put_four(out: &mut [u64], at: usize, ns: [u64; 4])
 
 #[no_mangle]
 pub extern "C" fn forest_loads(site: &[u8], out: &mut [u64]) -> u64
-    ensures answer { λ r. ⌜ r ≡ codeIf (andThen (valueCheck (now (site .entry))) (roomRule 4 (length (now (out .entry))))) 4 ⌝ }
-    ensures buffer { λ _. ⌜ now (out .exit) ≡ bufferOf (andThen (valueCheck (now (site .entry))) (roomRule 4 (length (now (out .entry))))) (loadsNumbers (siteIn (now (site .entry)))) (now (out .entry)) ⌝ }
+    ensures answer { λ r. ⌜ r ≡ codeIf (outputRule (valueCheck (now (site .entry))) 4 (length (now (out .entry)))) 4 ⌝ }
+    ensures buffer { λ _. ⌜ now (out .exit) ≡ heldAfter (outputRule (valueCheck (now (site .entry))) 4 (length (now (out .entry)))) (loadsNumbers (siteIn (now (site .entry)))) (now (out .entry)) ⌝ }
 {
     if site.len() != 50 {
         return refused(Rule::BadLength);
@@ -78,8 +80,9 @@ fn verdict_marked(v: Verdict) -> [u64; 4]
 
 #[no_mangle]
 pub extern "C" fn forest_judge(site: &[u8], out: &mut [u64]) -> u64
-    ensures answer { λ r. ⌜ r ≡ codeIf (andThen (valueCheck (now (site .entry))) (roomRule 8 (length (now (out .entry))))) 8 ⌝ }
-    ensures buffer { λ _. ⌜ now (out .exit) ≡ bufferOf (andThen (valueCheck (now (site .entry))) (roomRule 8 (length (now (out .entry))))) (judgementNumbers (siteIn (now (site .entry)))) (now (out .entry)) ⌝ }
+    ensures answer { λ r. ⌜ r ≡ codeIf (outputRule (valueCheck (now (site .entry))) 8 (length (now (out .entry)))) 8 ⌝ }
+    ensures buffer { λ _. ⌜ now (out .exit) ≡ heldAfter (outputRule (valueCheck (now (site .entry))) 8 (length (now (out .entry)))) (judgementNumbers (siteIn (now (site .entry)))) (now (out .entry)) ⌝ }
+    ensures demand3 { λ _. ⌜ (valueCheck (now (site .entry)) ≡ Passed → 8 ≤ length (now (out .entry)) → Marks (getD (now (out .exit)) 7 0) (siteIn (now (site .entry)))) ⌝ }
 {
     if site.len() != 50 {
         return refused(Rule::BadLength);

@@ -1,7 +1,7 @@
 -- All that the answer of the judgement promises, from its equation.
 use Prim.Native.Nat.{ℕ, _-_}
 use mathlib.Core.Path.{_≡_, refl, sym, _∙_, ap}
-use mathlib.Core.Logic.{_↔_}
+use mathlib.Core.List.{[], _∷_}
 use native.Mathlib.Omega.{arith}
 use Rattle.site.specs.Check.{siteRule}
 use Rattle.site.specs.declared.Site.{Site}
@@ -9,26 +9,23 @@ use Rattle.site.specs.declared.Rule.{Rule}
 use Rattle.site.specs.Refusal.{valuesIf}
 use Rattle.site.specs.declared.Checked.{Checked}
 use Rattle.site.specs.declared.Checked.the-variants.{Passed, Broken}
+use Rattle.loads.specs.SiteTerms.{termsOf}
+use Rattle.loads.specs.Terms.{Terms}
 use Rattle.loads.specs.CriticalLoads.{loadsOf}
-use Rattle.loads.specs.Nitrogen.{retained}
-use Rattle.loads.specs.declared.Loads.{Loads}
-use Rattle.judgement.specs.declared.Verdict.{Verdict}
-use Rattle.judgement.specs.declared.Verdict.the-variants.{Within}
 use Rattle.judgement.specs.declared.Judged.{Judged}
 use Rattle.judgement.specs.declared.JudgementAnswer.{JudgementAnswer}
 use Rattle.judgement.specs.declared.JudgementAnswer.the-variants.{Given, Refused}
-use Rattle.judgement.specs.Balance.{Closes}
-use Rattle.judgement.specs.Regions.{regionOf, acidOf}
-use Rattle.judgement.specs.Verdicts.{region, acidExceedance, nutrientExceedance, verdictOf, verdict, judgedOf, judgementIf, judgementAnswer, judgedValues, judgementValues}
-use Rattle.judgement.proofs.Demand3.{demand-3}
+use Rattle.judgement.specs.Balance.{Says}
+use Rattle.judgement.specs.Regions.{regionNumber, regionOf, acidIn, acidOf}
+use Rattle.judgement.specs.Verdicts.{region, acidExceedance, nutrientExceedance, verdictOf, verdict, verdictNumbers, verdictWord}
+use Rattle.judgement.specs.Answers.{judgedOf, judgementIf, judgementAnswer, judgedValues, judgementValues, pairValues}
+use Rattle.judgement.proofs.Demand3.{numbers-of}
+use Rattle.judgement.proofs.AtSites.{word-tells}
 
 -- a site that passes the check is judged
-pub given : (s : Site) → siteRule s ≡ Passed → judgementAnswer s ≡ Given (record { loads = loadsOf s; verdict = verdict s (s .sulphur) (s .nitrogen) })
-unfolding judgementAnswer judgementIf judgedOf
+pub given : (s : Site) → siteRule s ≡ Passed → judgementAnswer s ≡ Given (judgedOf s)
+unfolding judgementAnswer judgementIf
 given s p = rw p
-
-judged-in : {j k : Judged} → Given j ≡ Given k → j ≡ k
-judged-in e = cc
 
 -- what an answer says of its site
 given-if : (c : Checked) (j k : Judged) → judgementIf c j ≡ Given k → (c ≡ Passed) × (k ≡ j)
@@ -49,33 +46,39 @@ pub refused : (s : Site) (r : Rule) → judgementAnswer s ≡ Refused r → site
 unfolding judgementAnswer
 refused s r e = refused-if (siteRule s) (judgedOf s) r e
 
-verdict-in : {l : Loads} {v w : Verdict} → Given (record { loads = l; verdict = v }) ≡ Given (record { loads = l; verdict = w }) → v ≡ w
-verdict-in e = ap (λ (j : Judged). j .verdict) (judged-in e)
+pub judged-says : (s : Site) → siteRule s ≡ Passed → Says (verdictWord (judgedOf s .verdict)) s
+unfolding judgedOf
+judged-says s p = word-tells s p (s .sulphur) (s .nitrogen)
 
--- the verdict of the loads at hand is the site's
+-- the verdict from the loads at hand
 pub verdict-by-loads :
-    (s : Site) (S N : ℕ)
-    → verdictOf (regionOf S N (loadsOf s .«max_s») (loadsOf s .«min_n») (retained s)) (acidOf S N (loadsOf s .«max_s») (loadsOf s .«min_n») (retained s)) (N - loadsOf s .«nut_n»)
-    ≡ verdict s S N
+    (t : Terms) (S N : ℕ)
+    → verdictOf (regionOf S N (loadsOf t .«max_s») (loadsOf t .«min_n») (t .e)) (acidOf S N (loadsOf t .«max_s») (loadsOf t .«min_n») (t .e)) (N - loadsOf t .«nut_n»)
+    ≡ verdict t S N
 unfolding verdict region acidExceedance nutrientExceedance loadsOf
-verdict-by-loads s S N = refl
+verdict-by-loads t S N = refl
+
+-- the numbers of the verdict are the region's, and both exceedances, of the pair: within as well
+pub numbers-are : (t : Terms) (S N : ℕ) → verdictNumbers (verdict t S N) ≡ regionNumber (region t S N) ∷ acidExceedance t S N ∷ nutrientExceedance t N ∷ []
+unfolding verdict region acidExceedance acidOf acidIn
+numbers-are t S N = numbers-of (region t S N) (acidExceedance t S N) (nutrientExceedance t N) (λ r. rw r)
+
+judged-values : (s : Site) → judgedValues (judgedOf s) ≡ pairValues (termsOf s) (s .sulphur) (s .nitrogen)
+unfolding judgedValues judgedOf loadsOf pairValues
+judged-values s = rw (numbers-are (termsOf s) (s .sulphur) (s .nitrogen))
+
+values-if : (c : Checked) (j : Judged) → judgementValues (judgementIf c j) ≡ valuesIf c (judgedValues j)
+unfolding judgementValues judgementIf valuesIf
+values-if Passed j = refl
+values-if (Broken k) j = refl
 
 module _ (s : Site) (r : JudgementAnswer) (is : r ≡ judgementAnswer s) where
-  within : siteRule s ≡ Passed → (r ≡ Given (record { loads = loadsOf s; verdict = Within })) ↔ Closes s (s .sulphur) (s .nitrogen)
-  within p =
-      let iff = demand-3 s p (s .sulphur) (s .nitrogen) in (
-        λ w. iff .0 (verdict-in (sym (given s p) ∙ sym is ∙ w)),
-        λ k. is ∙ given s p ∙ ap (λ v. Given (record { loads = loadsOf s; verdict = v })) (iff .1 k),
-      )
-
-  values-if : (c : Checked) (j : Judged) → judgementValues (judgementIf c j) ≡ valuesIf c (judgedValues j)
-  unfolding judgementValues judgementIf valuesIf
-  values-if Passed j = refl
-  values-if (Broken k) j = refl
+  says : (j : Judged) → r ≡ Given j → Says (verdictWord (j .verdict)) s
+  says j e = let g = judged s j (sym is ∙ e) in rw (g .1) (judged-says s (g .0))
 
   pub whole :
       (r ≡ judgementAnswer s)
-      × ((judgementValues r ≡ valuesIf (siteRule s) (judgedValues (judgedOf s)))
-      × (siteRule s ≡ Passed → (r ≡ Given (record { loads = loadsOf s; verdict = Within })) ↔ Closes s (s .sulphur) (s .nitrogen)))
+      × ((judgementValues r ≡ valuesIf (siteRule s) (pairValues (termsOf s) (s .sulphur) (s .nitrogen)))
+      × ((j : Judged) → r ≡ Given j → Says (verdictWord (j .verdict)) s))
   unfolding judgementAnswer
-  whole = (is, (ap judgementValues is ∙ values-if (siteRule s) (judgedOf s), within))
+  whole = (is, (ap judgementValues is ∙ values-if (siteRule s) (judgedOf s) ∙ ap (valuesIf (siteRule s)) (judged-values s), says))

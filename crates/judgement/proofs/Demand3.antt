@@ -3,29 +3,24 @@ use Prim.Native.Nat.{ℕ, _+_, _*_, _-_, _/_, _≤_, _<_, min}
 use mathlib.Core.Bool.{Bool, true, false, _&&_}
 use mathlib.Core.Path.{_≡_, refl, sym, _∙_}
 use mathlib.Core.Logic.{_↔_}
+use mathlib.Core.List.{[], _∷_}
 use native.Mathlib.Omega.{arith}
 use native.Mathlib.Nat.{mul-comm, mul-le-mul-left, le-trans, le-div-iff-mul-le}
 use borrow.Author.Tests.{eqb-true}
 use lib.Dec.{eqb}
 use Rattle.site.specs.Choice.{pick}
-use Rattle.site.specs.Bounds.{Bounds}
-use Rattle.site.specs.Check.{siteRule}
-use Rattle.site.specs.declared.Site.{Site}
-use Rattle.site.specs.declared.Checked.the-variants.{Passed}
-use Rattle.site.proofs.BoundsLaw.{bounds}
-use Rattle.loads.specs.Uptake.{nitrogenUptake}
-use Rattle.loads.specs.Hydrogen.{hydrogen, aluminium, greatestLevel}
-use Rattle.loads.specs.Nitrogen.{retained, leaching}
+use Rattle.loads.specs.Terms.{Terms, TermBounds}
+use Rattle.loads.specs.Hydrogen.{greatestLevel}
 use Rattle.loads.specs.CriticalLoads.{maxS, minN}
 use Rattle.site.proofs.Tests.{and-l, and-r}
-use Rattle.loads.proofs.LevelLaws.{hydrogenOf-mono, alOf-mono}
-use Rattle.loads.proofs.TermLaws.{maxS-is, minN-is, nutN-is, greatest-ceiling, greatest-limit, greatest-of-all, term-bounds}
+use Rattle.loads.proofs.TermLaws.{maxS-is, minN-is, nutN-is, greatest-ceiling, greatest-limit, maxS-greatest}
 use Rattle.judgement.specs.declared.Region.{Region}
 use Rattle.judgement.specs.declared.Region.the-variants.{Unexceeded, NoSulphur, Slope, Corner, SulphurOnly}
+use Rattle.judgement.specs.declared.Verdict.{Verdict}
 use Rattle.judgement.specs.declared.Verdict.the-variants.{Within, Over}
 use Rattle.judgement.specs.Regions.{regionNumber}
-use Rattle.judgement.specs.Verdicts.{region, acidExceedance, nutrientExceedance, verdictOf, verdict}
-use Rattle.judgement.specs.Balance.{Allowed, Closes}
+use Rattle.judgement.specs.Verdicts.{region, acidExceedance, nutrientExceedance, verdictOf, verdict, verdictNumbers}
+use Rattle.judgement.specs.Balance.{Allowed, Closes, Tells}
 use Rattle.judgement.proofs.RegionLaws.{zero-closes, closes-zero}
 
 -- N is at most m + X / e exactly where e × (N − m) is at most X
@@ -40,12 +35,22 @@ over≢within : {r : Region} {a n : ℕ} → Over r a n ≡ Within → ⊥
 over≢within e = let z : _≡_ {A = ℕ} 0 1 = cc in omega arith
 
 number-zero : (r : Region) → regionNumber r ≡ 0 → r ≡ Unexceeded
-unfolding regionNumber
 number-zero Unexceeded h = refl
 number-zero NoSulphur h = absurd (omega arith)
 number-zero Slope h = absurd (omega arith)
 number-zero Corner h = absurd (omega arith)
 number-zero SulphurOnly h = absurd (omega arith)
+
+-- the numbers of a verdict, for an acid exceedance that is 0 in region 0
+pub numbers-of : (r : Region) (a n : ℕ) → (r ≡ Unexceeded → a ≡ 0) → verdictNumbers (verdictOf r a n) ≡ regionNumber r ∷ a ∷ n ∷ []
+unfolding verdictOf verdictNumbers
+numbers-of r a n zero = go (eqb (regionNumber r) 0 && eqb n 0) refl
+  where
+    go : (t : Bool) → eqb (regionNumber r) 0 && eqb n 0 ≡ t → verdictNumbers (pick t Within (Over r a n)) ≡ regionNumber r ∷ a ∷ n ∷ []
+    go true e =
+        let here = number-zero r (eqb-true _ _ (and-l (eqb (regionNumber r) 0) (eqb n 0) e)) in
+        rw (zero here, here, eqb-true n 0 (and-r (eqb (regionNumber r) 0) (eqb n 0) e))
+    go false e = refl
 
 pub within-needs : (r : Region) (a n : ℕ) → verdictOf r a n ≡ Within → (r ≡ Unexceeded) × (n ≡ 0)
 unfolding verdictOf
@@ -56,69 +61,68 @@ within-needs r a n h = go (eqb (regionNumber r) 0 && eqb n 0) refl h
     go false e p = absurd (over≢within p)
 
 pub within-where : {r : Region} (a : ℕ) {n : ℕ} → r ≡ Unexceeded → n ≡ 0 → verdictOf r a n ≡ Within
-unfolding verdictOf regionNumber
+unfolding verdictOf
 within-where a {n} e z = rw (e, z)
 
-verdict-is : (s : Site) (S N : ℕ) → verdict s S N ≡ verdictOf (region s S N) (acidExceedance s S N) (nutrientExceedance s N)
-unfolding verdict
-verdict-is s S N = refl
+greatest-allowed : (t : Terms) → Allowed t (greatestLevel t)
+greatest-allowed t = record { ceiling = greatest-ceiling t; aluminium-limit = greatest-limit t }
 
-module _ (s : Site) where
-  greatest-allowed : Allowed s (greatestLevel s)
-  greatest-allowed = record { ceiling = greatest-ceiling s; aluminium-limit = greatest-limit s }
+module _ (t : Terms) (b : TermBounds t) where
+  pub nutrient-iff : (N : ℕ) → (nutrientExceedance t N ≡ 0) ↔ (t .e * (N - minN t) ≤ 1000 * t .L)
+  unfolding nutrientExceedance
+  nutrient-iff N = rw (nutN-is t) (nutrient-zero N (minN t) (1000 * t .L) (t .e) (b .e-least))
 
-  hydrogen-mono : {i j : ℕ} → i ≤ j → hydrogen s i ≤ hydrogen s j
-  unfolding hydrogen
-  hydrogen-mono = hydrogenOf-mono (s .percolation) 0
+  module _ (S N : ℕ) where
+    -- balances that close are closed by all that the site offers, at the greatest level
+    pub closes-judged : Closes t S N → (region t S N ≡ Unexceeded) × (nutrientExceedance t N ≡ 0)
+    unfolding region
+    closes-judged k =
+        let m = minN t in
+        let rest : N - m ≤ N - k .u - k .i = omega (arith, minN-is t, k .taken-up, k .immobilised) in
+        let left : t .e * (N - m) ≤ t .e * (N - k .u - k .i) = mul-le-mul-left (t .e) rest in
+        let most = maxS-greatest t (k .h) (k .allowed .ceiling) (k .allowed .aluminium-limit) in (
+          closes-zero S N (maxS t) m (t .e) (omega (arith, left, k .acid-balance, most)),
+          nutrient-iff N .1 (le-trans left (k .nitrogen-balance)),
+        )
 
-  aluminium-mono : {i j : ℕ} → i ≤ j → aluminium s i ≤ aluminium s j
-  unfolding aluminium
-  aluminium-mono = alOf-mono (s .percolation) (s .gibbsite)
+    pub judged-closes : region t S N ≡ Unexceeded → nutrientExceedance t N ≡ 0 → Closes t S N
+    unfolding region
+    judged-closes r z =
+        let u = min N (t .Nu) in
+        let i = min (N - u) (t .Ni) in
+        let rest : N - u - i ≡ N - minN t = omega (arith, minN-is t) in
+        record {
+          u = u;
+          i = i;
+          h = greatestLevel t;
+          taken-up = omega arith;
+          immobilised = omega arith;
+          deposited = omega arith;
+          allowed = greatest-allowed t;
+          nitrogen-balance = rw rest (nutrient-iff N .0 z);
+          acid-balance = rw rest (omega (arith, maxS-is t, zero-closes S N (maxS t) (minN t) (t .e) r));
+        }
 
-  module _ (b : Bounds s) where
-    pub nutrient-iff : (N : ℕ) → (nutrientExceedance s N ≡ 0) ↔ (retained s * (N - minN s) ≤ 1000 * leaching s)
-    unfolding nutrientExceedance
-    nutrient-iff N = rw (nutN-is s) (nutrient-zero N (minN s) (1000 * leaching s) (retained s) (term-bounds s b .retained-least))
+    -- demand 3, for every pair
+    pub within-iff-closes : (verdict t S N ≡ Within) ↔ Closes t S N
+    unfolding verdict
+    within-iff-closes = (
+      λ h. let p = within-needs (region t S N) (acidExceedance t S N) (nutrientExceedance t N) h in judged-closes (p .0) (p .1),
+      λ k. let p = closes-judged k in within-where (acidExceedance t S N) (p .0) (p .1),
+    )
 
-    module _ (S N : ℕ) where
-      -- balances that close are closed by all that the site offers, at the greatest level
-      pub closes-judged : Closes s S N → (region s S N ≡ Unexceeded) × (nutrientExceedance s N ≡ 0)
-      unfolding region
-      closes-judged k =
-          let m = minN s in
-          let rest : N - m ≤ N - k .u - k .i = omega (arith, minN-is s, k .taken-up, k .immobilised) in
-          let left : retained s * (N - m) ≤ retained s * (N - k .u - k .i) = mul-le-mul-left (retained s) rest in
-          let top = greatest-of-all s (k .h) (k .allowed .ceiling) (k .allowed .aluminium-limit) in (
-            closes-zero S N (maxS s) m (retained s) (omega (arith, left, k .acid-balance, maxS-is s, hydrogen-mono top, aluminium-mono top)),
-            nutrient-iff N .1 (le-trans left (k .nitrogen-balance)),
-          )
-
-      pub judged-closes : region s S N ≡ Unexceeded → nutrientExceedance s N ≡ 0 → Closes s S N
-      unfolding region
-      judged-closes r z =
-          let u = min N (nitrogenUptake s) in
-          let i = min (N - u) (s .immobilisation) in
-          let rest : N - u - i ≡ N - minN s = omega (arith, minN-is s) in
-          record {
-            u = u;
-            i = i;
-            h = greatestLevel s;
-            taken-up = omega arith;
-            immobilised = omega arith;
-            deposited = omega arith;
-            allowed = greatest-allowed;
-            nitrogen-balance = rw rest (nutrient-iff N .0 z);
-            acid-balance = rw rest (omega (arith, maxS-is s, zero-closes S N (maxS s) (minN s) (retained s) r));
-          }
-
-      -- demand 3, for every pair
-      pub within-iff-closes : (verdict s S N ≡ Within) ↔ Closes s S N
-      within-iff-closes =
-          let is = verdict-is s S N in (
-            λ h. let p = within-needs (region s S N) (acidExceedance s S N) (nutrientExceedance s N) (sym is ∙ h) in judged-closes (p .0) (p .1),
-            λ k. let p = closes-judged k in is ∙ within-where (acidExceedance s S N) (p .0) (p .1),
-          )
-
--- the same for every site that passes the check
-pub demand-3 : (s : Site) → siteRule s ≡ Passed → (S N : ℕ) → (verdict s S N ≡ Within) ↔ Closes s S N
-demand-3 s passed S N = within-iff-closes s (bounds s passed) S N
+    -- a sign that goes by the verdict says the same
+    pub verdict-tells :
+        {A : Type 0} {first second : A} (sign : Verdict → A)
+        → sign Within ≡ first
+        → ((r : Region) (a n : ℕ) → sign (Over r a n) ≡ second)
+        → (first ≡ second → ⊥)
+        → Tells first second (sign (verdict t S N)) t S N
+    verdict-tells {first = first} {second = second} sign w o differ = go (verdict t S N) within-iff-closes
+      where
+        go : (v : Verdict) → ((v ≡ Within) ↔ Closes t S N) → Tells first second (sign v) t S N
+        go Within c = record { closes = (λ e. c .0 refl, λ k. w); otherwise = (λ e. absurd (differ (sym w ∙ e)), λ not. absurd (not (c .0 refl))) }
+        go (Over r a n) c = record {
+          closes = (λ e. absurd (differ (sym e ∙ o r a n)), λ k. absurd (over≢within (c .1 k)));
+          otherwise = (λ e k. over≢within (c .1 k), λ not. o r a n);
+        }

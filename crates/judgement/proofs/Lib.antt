@@ -4,4 +4,5 @@ pub mod Exceeding
 pub mod Least
 pub mod Demand3
 pub mod Monotone
+pub mod AtSites
 pub mod AnswerLaws

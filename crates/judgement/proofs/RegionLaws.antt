@@ -60,7 +60,6 @@ module _ (S N C m e : ℕ) where
 
   -- region 0 is where the acid balance closes with all of m taken from N
   pub zero-closes : regionOf S N C m e ≡ Unexceeded → 1000 * S + e * (N - m) ≤ 1000 * C
-  unfolding regionNumber
   zero-closes =
       by-region (λ r. r ≡ Unexceeded → 1000 * S + e * (N - m) ≤ 1000 * C) (λ v q. v)
       (λ n g q. omega (arith, ap regionNumber q))

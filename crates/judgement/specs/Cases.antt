@@ -6,9 +6,11 @@ use Rattle.loads.specs.Rounding.{up}
 use Rattle.loads.specs.Texture.{textureOf}
 use Rattle.loads.specs.Weathering.{classOf, weatheringOf, weathering, availableWeathering}
 use Rattle.loads.specs.Uptake.{content, nitrogenIn, baseIn, weightOf, sumOver, standSum, nitrogenUptake, baseDemand, baseUptakeOf, baseUptake}
-use Rattle.loads.specs.Hydrogen.{aluminiumLimit, hydrogenOf, alOf, greatestWhere, levelOf, hydrogen, aluminium, greatestLevel, criticalLeaching}
+use Rattle.loads.specs.Hydrogen.{hydrogenOf, alOf, greatestWhere, levelOf, hydrogen, aluminium, greatestLevel, criticalLeaching}
+use Rattle.loads.specs.Supply.{baseSupply, aluminiumLimit}
 use Rattle.loads.specs.Nitrogen.{denitrified, retainedOf, retained, leaching}
-use Rattle.loads.specs.CriticalLoads.{maxS, minN, maxN, nutN}
+use Rattle.loads.specs.SiteTerms.{termsOf}
+use Rattle.loads.specs.CriticalLoads.{maxS, minN, nutN}
 use Rattle.loads.specs.Example.{a1}
 use Rattle.judgement.specs.Regions.{regionNumber, D, excess, regionOf, acidIn, acidOf}
 use Rattle.judgement.specs.Verdicts.{region, acidExceedance, nutrientExceedance}
@@ -19,8 +21,8 @@ pub data Question : Type 0 where
   soil : (clay sand : ℕ) → Question  -- texture class
 
 unfoldable pub answer : Question → List ℕ
-answer (pairOfA1 S N) = regionNumber (region a1 S N) ∷ acidExceedance a1 S N ∷ []
-answer (nitrogenOfA1 N) = nutrientExceedance a1 N ∷ []
+answer (pairOfA1 S N) = regionNumber (region (termsOf a1) S N) ∷ acidExceedance (termsOf a1) S N ∷ []
+answer (nitrogenOfA1 N) = nutrientExceedance (termsOf a1) N ∷ []
 answer (soil clay sand) = textureOf clay sand ∷ []
 
 pub record Row : Type 0 where
@@ -44,5 +46,5 @@ table =
     ∷ []
 
 agrees : map (λ (r : Row). answer (r .question)) table ≡ map (λ (r : Row). r .given) table
-unfolding table answer up textureOf classOf weatheringOf weathering availableWeathering content nitrogenIn baseIn weightOf sumOver standSum nitrogenUptake baseDemand baseUptakeOf baseUptake aluminiumLimit hydrogenOf alOf greatestWhere levelOf hydrogen aluminium greatestLevel criticalLeaching denitrified retainedOf retained leaching maxS minN maxN nutN regionNumber D excess regionOf acidIn acidOf region acidExceedance nutrientExceedance
+unfolding table answer termsOf up textureOf classOf weatheringOf weathering availableWeathering content nitrogenIn baseIn weightOf sumOver standSum nitrogenUptake baseDemand baseUptakeOf baseUptake baseSupply aluminiumLimit hydrogenOf alOf greatestWhere levelOf hydrogen aluminium greatestLevel criticalLeaching denitrified retainedOf retained leaching maxS minN nutN D excess regionOf acidIn acidOf region acidExceedance nutrientExceedance
 agrees = refl

@@ -1,6 +1,7 @@
 -- What the private functions ask of their numbers.
 use Prim.Native.Nat.{ℕ, _≤_}
 use mathlib.Core.Path.{_≡_}
+use Rattle.loads.specs.Most.{mostMaxS}
 use Rattle.judgement.specs.declared.Region.{Region}
 use Rattle.judgement.specs.Regions.{regionOf}
 
@@ -8,7 +9,7 @@ use Rattle.judgement.specs.Regions.{regionOf}
 pub record Pair (S N C e : ℕ) : Type 0 where
   pub sulphur : S ≤ 65535
   pub nitrogen : N ≤ 65535
-  pub maxS : C ≤ 363125
+  pub maxS : C ≤ mostMaxS
   pub positive : 1 ≤ e
   pub retained : e ≤ 1000
 

@@ -1,5 +1,7 @@
 pub mod Regions
 pub mod Verdicts
 pub mod Balance
+pub mod Less
+pub mod Answers
 pub mod Conditions
 pub mod Cases

@@ -8,7 +8,7 @@ use Rattle.loads.specs.Rounding.{up}
 use Rattle.judgement.specs.declared.Region.{Region}
 use Rattle.judgement.specs.declared.Region.the-variants.{Unexceeded, NoSulphur, Slope, Corner, SulphurOnly}
 
-unfoldable pub regionNumber : Region → ℕ
+abbrev pub regionNumber : Region → ℕ
 regionNumber Unexceeded = 0
 regionNumber NoSulphur = 1
 regionNumber Slope = 2

@@ -1,67 +1,45 @@
--- The verdict on a pair S, N at a site, and what the call answers.
+-- The verdict on a pair S, N, on the terms of a site.
 use Prim.Native.Nat.{ℕ, _-_}
 use mathlib.Core.Bool.{_&&_}
-use mathlib.Core.List.{List, [], _∷_, _++_}
+use mathlib.Core.List.{List, [], _∷_}
 use lib.Dec.{eqb}
 use Rattle.site.specs.Choice.{pick}
-use Rattle.site.specs.declared.Site.{Site}
-use Rattle.site.specs.declared.Checked.{Checked}
-use Rattle.site.specs.declared.Checked.the-variants.{Passed, Broken}
-use Rattle.site.specs.Refusal.{ruleNumber}
-use Rattle.site.specs.Check.{siteRule}
-use Rattle.loads.specs.Nitrogen.{retained}
-use Rattle.loads.specs.CriticalLoads.{maxS, minN, nutN, loadsOf}
+use Rattle.loads.specs.Terms.{Terms}
+use Rattle.loads.specs.CriticalLoads.{maxS, minN, nutN}
 use Rattle.judgement.specs.declared.Region.{Region}
 use Rattle.judgement.specs.declared.Verdict.{Verdict}
 use Rattle.judgement.specs.declared.Verdict.the-variants.{Within, Over}
-use Rattle.judgement.specs.declared.Judged.{Judged}
-use Rattle.judgement.specs.declared.JudgementAnswer.{JudgementAnswer}
-use Rattle.judgement.specs.declared.JudgementAnswer.the-variants.{Given, Refused}
 use Rattle.judgement.specs.Regions.{regionNumber, regionOf, acidOf}
 
-unfoldable pub region : Site → (S N : ℕ) → Region
-region s S N = regionOf S N (maxS s) (minN s) (retained s)
+unfoldable pub region : Terms → (S N : ℕ) → Region
+region t S N = regionOf S N (maxS t) (minN t) (t .e)
 
-unfoldable pub acidExceedance : Site → (S N : ℕ) → ℕ
-acidExceedance s S N = acidOf S N (maxS s) (minN s) (retained s)
+unfoldable pub acidExceedance : Terms → (S N : ℕ) → ℕ
+acidExceedance t S N = acidOf S N (maxS t) (minN t) (t .e)
 
 -- at least 0, as the subtraction of ℕ gives
-unfoldable pub nutrientExceedance : Site → (N : ℕ) → ℕ
-nutrientExceedance s N = N - nutN s
+unfoldable pub nutrientExceedance : Terms → (N : ℕ) → ℕ
+nutrientExceedance t N = N - nutN t
 
 -- within needs region 0 and nutrient exceedance 0
 unfoldable pub verdictOf : Region → (acid nutrient : ℕ) → Verdict
 verdictOf r acid nutrient = pick (eqb (regionNumber r) 0 && eqb nutrient 0) Within (Over r acid nutrient)
 
-unfoldable pub verdict : Site → (S N : ℕ) → Verdict
-verdict s S N = verdictOf (region s S N) (acidExceedance s S N) (nutrientExceedance s N)
+unfoldable pub verdict : Terms → (S N : ℕ) → Verdict
+verdict t S N = verdictOf (region t S N) (acidExceedance t S N) (nutrientExceedance t N)
 
 -- region, acid and nutrient exceedance of each case
 unfoldable pub verdictNumbers : Verdict → List ℕ
 verdictNumbers Within = 0 ∷ 0 ∷ 0 ∷ []
 verdictNumbers (Over r acid nutrient) = regionNumber r ∷ acid ∷ nutrient ∷ []
 
--- `within` or `over`
+-- `within` and `over`
+abbrev pub within : List ℕ
+within = 119 ∷ 105 ∷ 116 ∷ 104 ∷ 105 ∷ 110 ∷ []
+
+abbrev pub over : List ℕ
+over = 111 ∷ 118 ∷ 101 ∷ 114 ∷ []
+
 unfoldable pub verdictWord : Verdict → List ℕ
-verdictWord Within = 119 ∷ 105 ∷ 116 ∷ 104 ∷ 105 ∷ 110 ∷ []
-verdictWord (Over r acid nutrient) = 111 ∷ 118 ∷ 101 ∷ 114 ∷ []
-
--- the judgement of the site's own pair
-unfoldable pub judgedOf : Site → Judged
-judgedOf s = record { loads = loadsOf s; verdict = verdict s (s .sulphur) (s .nitrogen) }
-
-unfoldable pub judgementIf : Checked → Judged → JudgementAnswer
-judgementIf Passed j = Given j
-judgementIf (Broken r) j = Refused r
-
-unfoldable pub judgementAnswer : Site → JudgementAnswer
-judgementAnswer s = judgementIf (siteRule s) (judgedOf s)
-
--- the values of each case: the loads, region and exceedances, and the word's bytes; or the refusal's number and offset
-unfoldable pub judgedValues : Judged → List ℕ
-judgedValues j =
-    (j .loads .«max_s» ∷ j .loads .«min_n» ∷ j .loads .«max_n» ∷ j .loads .«nut_n» ∷ verdictNumbers (j .verdict)) ++ verdictWord (j .verdict)
-
-unfoldable pub judgementValues : JudgementAnswer → List ℕ
-judgementValues (Given j) = judgedValues j
-judgementValues (Refused r) = ruleNumber r ∷ 0 ∷ []
+verdictWord Within = within
+verdictWord (Over r acid nutrient) = over

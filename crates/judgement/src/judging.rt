@@ -1,14 +1,14 @@
 // The verdict, and the call open to users.
 ghost use mathlib.Core.Path.{_≡_};
-ghost use mathlib.Core.Logic.{_↔_};
 ghost use Prim.Native.Nat.{_-_, _≤_};
 ghost use Rattle.site.specs.Check.{siteRule};
 ghost use Rattle.site.specs.Refusal.{valuesIf};
-ghost use Rattle.site.specs.declared.Checked.the-variants.{Passed};
-ghost use Rattle.loads.specs.CriticalLoads.{loadsOf};
+ghost use Rattle.loads.specs.Most.{mostMaxS};
+ghost use Rattle.loads.specs.SiteTerms.{termsOf};
 ghost use Rattle.judgement.specs.Regions.{regionOf, acidOf};
-ghost use Rattle.judgement.specs.Verdicts.{verdictOf, judgedOf, judgedValues, judgementAnswer, judgementValues};
-ghost use Rattle.judgement.specs.Balance.{Closes};
+ghost use Rattle.judgement.specs.Verdicts.{verdictOf, verdictWord};
+ghost use Rattle.judgement.specs.Answers.{judgementAnswer, judgementValues, pairValues};
+ghost use Rattle.judgement.specs.Balance.{Says};
 use crate::Judged;
 use crate::JudgementAnswer;
 use crate::Region;
@@ -20,7 +20,7 @@ use crate::regions::region_of;
 use loads::Loads;
 use loads::LoadsAnswer;
 use loads::critical_loads;
-use loads::retained_of;
+use loads::retained_at;
 use site::Site;
 
 // Within needs region 0 and nutrient exceedance 0.
@@ -52,7 +52,7 @@ fn wide(x: u16) -> u64
 
 // The verdict on the pair s, n from the loads and e.
 fn verdict_at(l: Loads, e: u64, s: u16, n: u16) -> Verdict
-    requires { ⌜ (l .«max_s» ≤ 363125) × (1 ≤ e) × (e ≤ 1000) ⌝ }
+    requires { ⌜ (l .«max_s» ≤ mostMaxS) × (1 ≤ e) × (e ≤ 1000) ⌝ }
     ensures { λ r. ⌜ r ≡ verdictOf (regionOf s n (l .«max_s») (l .«min_n») e) (acidOf s n (l .«max_s») (l .«min_n») e) (n - l .«nut_n») ⌝ }
 {
     let sulphur = wide(s);
@@ -68,13 +68,13 @@ fn verdict_at(l: Loads, e: u64, s: u16, n: u16) -> Verdict
 // The loads of a site and the verdict on its own pair, or the first rule that it breaks.
 pub fn judge(site: Site) -> JudgementAnswer
     ensures answer { λ r. ⌜ r ≡ judgementAnswer site ⌝ }
-    ensures values { λ r. ⌜ judgementValues r ≡ valuesIf (siteRule site) (judgedValues (judgedOf site)) ⌝ }
-    ensures demand3 { λ r. ⌜ (siteRule site ≡ Passed → ((r ≡ JudgementAnswer.Given (record { loads = loadsOf site; verdict = Verdict.Within })) ↔ Closes site (site .sulphur) (site .nitrogen))) ⌝ }
+    ensures values { λ r. ⌜ judgementValues r ≡ valuesIf (siteRule site) (pairValues (termsOf site) (site .sulphur) (site .nitrogen)) ⌝ }
+    ensures demand3 { λ r. ⌜ ((j : Judged) → r ≡ JudgementAnswer.Given j → Says (verdictWord (j .verdict)) site) ⌝ }
 {
     match critical_loads(site) {
         LoadsAnswer::Refused(rule) => JudgementAnswer::Refused(rule),
         LoadsAnswer::Given(l) => {
-            let e = retained_of(site.drainage);
+            let e = retained_at(site);
             let verdict = verdict_at(l, e, site.sulphur, site.nitrogen);
             let judged = Judged { loads: l, verdict };
             JudgementAnswer::Given(judged)

@@ -2,7 +2,6 @@
 use Prim.Native.Nat.{ℕ, suc, _<_}
 use mathlib.Core.Path.{_≡_, refl}
 use mathlib.Core.Bool.{true, false≢true}
-use mathlib.Core.Logic.{_↔_}
 use mathlib.Core.List.{List, [], _∷_, map}
 use native.Mathlib.Omega.{arith}
 use lib.ListN.{length, getD}
@@ -13,43 +12,26 @@ use Rattle.site.specs.Values.{nameByte, allOf, valueRule}
 use Rattle.site.proofs.Tests.{and-l, and-r}
 use Rattle.site.proofs.Passing.{ranged-passed}
 use Rattle.site.proofs.FieldLaws.{site-passed}
-use Rattle.site.proofs.BoundsLaw.{bounds}
-use Rattle.judgement.specs.declared.Verdict.{Verdict}
-use Rattle.judgement.specs.declared.Verdict.the-variants.{Within, Over}
-use Rattle.judgement.specs.Verdicts.{verdict, verdictWord, judgedOf}
-use Rattle.judgement.proofs.Demand3.{within-iff-closes}
-use Rattle.record.specs.Field.{blankSite}
+use Rattle.judgement.specs.Balance.{Says}
+use Rattle.judgement.specs.Verdicts.{verdictWord}
+use Rattle.judgement.proofs.AnswerLaws.{judged-says}
+use Rattle.field.specs.Field.{blankSite}
 use Rattle.text.specs.Line.{noRow, nameText}
 use Rattle.text.specs.Listing.{listing}
 use Rattle.text.specs.Words.{lastWord, lineAt, free}
 use Rattle.text.specs.Marks.{Plain}
 use Rattle.text.proofs.WordLaws.{free-cons}
 use Rattle.text.proofs.MarkLaws.{mark-of}
-use Rattle.listing.specs.File.{sites, contents}
+use Rattle.record.specs.Result.{good}
+use Rattle.record.specs.File.{contents}
+use Rattle.field.proofs.All.{all-at}
+use Rattle.record.proofs.SiteFile.{sites-checked}
 use Rattle.listing.specs.Rows.{rowBy, rowOf}
-use Rattle.listing.specs.Demand3.{within, over, Says}
 use Rattle.listing.proofs.MapLaws.{length-map, getD-map}
-use Rattle.listing.proofs.EveryLaws.{contents-checked}
-
--- the word of a verdict that is within exactly where C holds
-within-is : (C : Type 0) (v : Verdict) → ((v ≡ Within) ↔ C) → (verdictWord v ≡ within) ↔ C
-unfolding verdictWord within
-within-is C Within c = (λ e. c .0 refl, λ h. refl)
-within-is C (Over g a n) c = (
-  λ e. let z : _≡_ {A = ℕ} 111 119 = cc in absurd (omega arith),
-  λ h. let q : Over g a n ≡ Within = c .1 h in let z : _≡_ {A = ℕ} 0 1 = cc in absurd (omega arith),
-)
-
-over-is : (C : Type 0) (v : Verdict) → ((v ≡ Within) ↔ C) → (verdictWord v ≡ over) ↔ (C → ⊥)
-unfolding verdictWord over
-over-is C Within c = (λ e. let z : _≡_ {A = ℕ} 119 111 = cc in absurd (omega arith), λ h. absurd (h (c .0 refl)))
-over-is C (Over g a n) c = (λ e h. let q : Over g a n ≡ Within = c .1 h in let z : _≡_ {A = ℕ} 0 1 = cc in omega arith, λ h. refl)
 
 pub says : (s : Site) → siteRule s ≡ Passed → Says (verdictWord (rowOf s .verdict)) s
-unfolding rowOf rowBy judgedOf
-says s p =
-    let c = within-iff-closes s (bounds s p) (s .sulphur) (s .nitrogen) in
-    record { closes = within-is _ _ c; otherwise = over-is _ _ c }
+unfolding rowOf rowBy
+says s p = judged-says s p
 
 -- a name has no 0A
 not-end : (x : ℕ) → nameByte x ≡ true → x ≡ 10 → ⊥
@@ -68,10 +50,10 @@ unfolding rowOf rowBy nameText valueRule
 plain-row s p = name-free _ (ranged-passed _ (site-passed s p 0 (omega arith) .1))
 
 -- DEMAND 3 in the listing
-pub listing-says : (f : List ℕ) (ss : List Site) → contents f ≡ sites ss → (k : ℕ) → k < length ss
+pub listing-says : (f : List ℕ) (ss : List Site) → contents f ≡ good ss → (k : ℕ) → k < length ss
     → Says (lastWord (lineAt (suc k) (listing (map rowOf ss)))) (getD ss k blankSite)
 listing-says f ss e k h =
-    let c = contents-checked f ss e in
-    let plain : Plain (map rowOf ss) = λ i l. let j : i < length ss = omega (arith, length-map rowOf ss) in rw (getD-map rowOf ss i blankSite noRow j) (plain-row _ (c .each i j)) in
+    let c = sites-checked f ss e .1 in
+    let plain : Plain (map rowOf ss) = λ i l. let j : i < length ss = omega (arith, length-map rowOf ss) in rw (getD-map rowOf ss i blankSite noRow j) (plain-row _ (all-at c i blankSite j)) in
     let m = mark-of (map rowOf ss) k plain (omega (arith, length-map rowOf ss)) in
-    rw (m, getD-map rowOf ss k blankSite noRow h) (says (getD ss k blankSite) (c .each k h))
+    rw (m, getD-map rowOf ss k blankSite noRow h) (says (getD ss k blankSite) (all-at c k blankSite h))

@@ -1,6 +1,4 @@
 pub mod MapLaws
-pub mod WalkLaws
-pub mod EveryLaws
 pub mod TurnLaws
 pub mod LoopLaws
 pub mod Demand3Laws

@@ -10,50 +10,53 @@ use Rattle.site.specs.declared.Rule.{Rule}
 use Rattle.record.specs.declared.Outcome.the-variants.{Accepted, Refused as Broken}
 use Rattle.text.specs.declared.Listed.{Listed}
 use Rattle.text.specs.declared.Listed.the-variants.{Refused}
+use Rattle.text.specs.Most.{mostText}
 use Rattle.text.specs.Listing.{listing}
 use Rattle.text.specs.Refusal.{refusal}
-use Rattle.text.specs.Answer.{listedNumbers, answer, answerNumbers, held, Enough}
+use Rattle.output.specs.Output.{heldNumbers, held}
+use Rattle.text.specs.Answer.{listedNumbers, answer, Enough}
 use Rattle.text.specs.Marks.{Marked}
 use Rattle.text.proofs.AnswerLaws.{Answered, written}
 use Rattle.listing.specs.declared.Walked.{Walked}
-use Rattle.listing.specs.File.{Contents, sites, fault, contents}
+use Rattle.record.specs.Result.{good, fault}
+use Rattle.record.specs.File.{Contents, contents}
+use Rattle.record.proofs.ResultLaws.{not-good}
 use Rattle.listing.specs.Rows.{rowOf, padded, walkedOf}
 use Rattle.listing.specs.Listing.{listAnswer, listNumbers, listHeld, printed, reportOf}
 use Rattle.listing.specs.Demand3.{Written3}
 use Rattle.listing.proofs.MapLaws.{length-map}
-use Rattle.listing.proofs.EveryLaws.{not-sites}
 use Rattle.listing.proofs.Demand3Laws.{listing-says}
 
 -- ---- what the walk has found
 
 -- the rows are those of the sites that the file holds
-pub record Filled (w : Walked) (c : Contents) : Type 0 where
+pub record Filled (w : Walked) (c : Contents Site) : Type 0 where
   pub ss : List Site
-  pub holds : c ≡ sites ss
+  pub holds : c ≡ good ss
   pub rows : take (w .count) (w .rows) ≡ map rowOf ss
 
-walked-sites : (c : Contents) → walkedOf c .outcome ≡ Accepted → Filled (walkedOf c) c
+walked-sites : (c : Contents Site) → walkedOf c .outcome ≡ Accepted → Filled (walkedOf c) c
 unfolding walkedOf padded
-walked-sites (sites ss) e = record { ss = ss; holds = refl; rows = take-at (map rowOf ss) _ (length ss) (length-map rowOf ss) }
+walked-sites (good ss) e = record { ss = ss; holds = refl; rows = take-at (map rowOf ss) _ (length ss) (length-map rowOf ss) }
 walked-sites (fault rule at) e = let z : _≡_ {A = ℕ} 0 1 = cc in absurd (omega arith)
 
-pub found-sites : {w : Walked} (c : Contents) → w ≡ walkedOf c → w .outcome ≡ Accepted → Filled w c
+pub found-sites : {w : Walked} (c : Contents Site) → w ≡ walkedOf c → w .outcome ≡ Accepted → Filled w c
 found-sites c is e = rw is (walked-sites c (rw is at e))
 
-walked-fault : (c : Contents) {rule : Rule} {at : ℕ} → walkedOf c .outcome ≡ Broken rule at → c ≡ fault rule at
+walked-fault : (c : Contents Site) {rule : Rule} {at : ℕ} → walkedOf c .outcome ≡ Broken rule at → c ≡ fault rule at
 unfolding walkedOf
-walked-fault (sites ss) e = cc
+walked-fault (good ss) e = cc
 walked-fault (fault rule at) e = cc
 
-pub found-fault : {w : Walked} (c : Contents) {rule : Rule} {at : ℕ} → w ≡ walkedOf c → w .outcome ≡ Broken rule at → c ≡ fault rule at
+pub found-fault : {w : Walked} (c : Contents Site) {rule : Rule} {at : ℕ} → w ≡ walkedOf c → w .outcome ≡ Broken rule at → c ≡ fault rule at
 found-fault c is e = walked-fault c (rw is at e)
 
 -- what a call has written of the rows, by the sites
-pub by-sites : {w : Walked} {c : Contents} (x : Filled w c) (d : List ℕ) {e : List ℕ} {r : Listed}
+pub by-sites : {w : Walked} {c : Contents Site} (x : Filled w c) (d : List ℕ) {e : List ℕ} {r : Listed}
     → (r ≡ answer (listing (take (w .count) (w .rows))) d)
     × ((e ≡ held (listing (take (w .count) (w .rows))) d)
-    × ((listedNumbers r ≡ answerNumbers (listing (take (w .count) (w .rows))) d) × (Enough (listing (take (w .count) (w .rows))) d r × Marked (take (w .count) (w .rows)) e r)))
-    → Answered (listing (map rowOf (x .ss))) d e r
+    × ((listedNumbers r ≡ heldNumbers (listing (take (w .count) (w .rows))) d) × (Enough mostText (listing (take (w .count) (w .rows))) d r × Marked (take (w .count) (w .rows)) e r)))
+    → Answered mostText (listing (map rowOf (x .ss))) d e r
 by-sites x d p = rw (← x .rows) (p .0, (p .1 .0, (p .1 .1 .0, p .1 .1 .1 .0)))
 
 -- ---- the listing
@@ -63,12 +66,12 @@ abbrev Clauses : List ℕ → List ℕ → List ℕ → Listed → Type 0
 Clauses f d e r =
     (r ≡ listAnswer (contents f) d) × ((e ≡ listHeld (contents f) d) × ((listedNumbers r ≡ listNumbers (contents f) d) × Written3 f e r))
 
-written3 : (f d : List ℕ) {e : List ℕ} {r : Listed} (ss : List Site) → contents f ≡ sites ss → Answered (listing (map rowOf ss)) d e r → Written3 f e r
+written3 : (f d : List ℕ) {e : List ℕ} {r : Listed} (ss : List Site) → contents f ≡ good ss → Answered mostText (listing (map rowOf ss)) d e r → Written3 f e r
 written3 f d {e} {r} ss h a n b ts g k l =
     let same : ss ≡ ts = cc in
-    rw (written (listing (map rowOf ss)) d e r a n b, same) (listing-says f ts g k l)
+    rw (written (listing (map rowOf ss)) d e r (a .0) (a .1 .0) n b, same) (listing-says f ts g k l)
 
-pub listed-sites : (f d : List ℕ) {e : List ℕ} {r : Listed} (ss : List Site) → contents f ≡ sites ss → Answered (listing (map rowOf ss)) d e r → Clauses f d e r
+pub listed-sites : (f d : List ℕ) {e : List ℕ} {r : Listed} (ss : List Site) → contents f ≡ good ss → Answered mostText (listing (map rowOf ss)) d e r → Clauses f d e r
 unfolding listAnswer listHeld listNumbers
 listed-sites f d ss h a = (rw h (a .0), (rw h (a .1 .0), (rw h (a .1 .1 .0), written3 f d ss h a)))
 
@@ -82,19 +85,19 @@ listed-fault f d h = (rw h, (rw h, (rw h, λ n b. let z : _≡_ {A = ℕ} 0 1 = 
 abbrev pub Reported : List ℕ → List ℕ → List ℕ → Listed → Type 0
 Reported f d e r =
     (r ≡ answer (reportOf f) d)
-    × ((e ≡ held (reportOf f) d) × ((listedNumbers r ≡ answerNumbers (reportOf f) d) × (Enough (reportOf f) d r × Written3 f e r)))
+    × ((e ≡ held (reportOf f) d) × ((listedNumbers r ≡ heldNumbers (reportOf f) d) × (Enough mostText (reportOf f) d r × Written3 f e r)))
 
-reported : (f d : List ℕ) {e : List ℕ} {r : Listed} → Answered (reportOf f) d e r → Written3 f e r → Reported f d e r
+reported : (f d : List ℕ) {e : List ℕ} {r : Listed} → Answered mostText (reportOf f) d e r → Written3 f e r → Reported f d e r
 reported f d a w = (a .0, (a .1 .0, (a .1 .1 .0, (a .1 .1 .1, w))))
 
-pub reported-sites : (f d : List ℕ) {e : List ℕ} {r : Listed} (ss : List Site) → contents f ≡ sites ss → Answered (listing (map rowOf ss)) d e r → Reported f d e r
+pub reported-sites : (f d : List ℕ) {e : List ℕ} {r : Listed} (ss : List Site) → contents f ≡ good ss → Answered mostText (listing (map rowOf ss)) d e r → Reported f d e r
 unfolding reportOf printed
 reported-sites f d ss h a = reported f d (rw h a) (written3 f d ss h a)
 
-pub reported-fault : (f d : List ℕ) {e : List ℕ} {r : Listed} {rule : Rule} {at : ℕ} → contents f ≡ fault rule at → Answered (refusal rule at) d e r → Reported f d e r
+pub reported-fault : (f d : List ℕ) {e : List ℕ} {r : Listed} {rule : Rule} {at : ℕ} → contents f ≡ fault rule at → Answered mostText (refusal rule at) d e r → Reported f d e r
 unfolding reportOf printed
-reported-fault f d h a = reported f d (rw h a) (λ n b ss g k l. not-sites (sym h ∙ g))
+reported-fault f d h a = reported f d (rw h a) (λ n b ss g k l. not-good (sym h ∙ g))
 
 -- the part that says nothing of the balances
-pub as-answered : (f d : List ℕ) {e : List ℕ} {r : Listed} → Reported f d e r → Answered (reportOf f) d e r
+pub as-answered : (f d : List ℕ) {e : List ℕ} {r : Listed} → Reported f d e r → Answered mostText (reportOf f) d e r
 as-answered f d a = (a .0, (a .1 .0, (a .1 .1 .0, a .1 .1 .1 .0)))

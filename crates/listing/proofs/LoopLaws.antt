@@ -9,37 +9,39 @@ use Rattle.site.specs.declared.Site.{Site}
 use Rattle.site.specs.declared.Rule.{Rule}
 use Rattle.site.specs.declared.Rule.the-variants.{TooMany}
 use Rattle.record.specs.declared.Outcome.the-variants.{Accepted, Refused}
-use Rattle.record.specs.Outer.{recordAt, outcomeNumbers}
-use Rattle.record.proofs.Place.{next-after, next-inside}
+use Rattle.record.specs.Result.{good, fault}
+use Rattle.record.specs.Outer.{siteAt, recordAt, outcomeNumbers}
+use Rattle.record.specs.File.{Contents, first, onto, walkFile, contents, contentsNumbers}
+use Rattle.record.proofs.FileLaws.{walk-end, walk-full, walk-step}
+use Rattle.record.proofs.Place.{record-good, record-fault, site-after, site-inside}
+use Rattle.record.proofs.SiteFile.{sites-some}
 use Rattle.text.specs.declared.Row.{Row}
 use Rattle.listing.specs.declared.Walked.{Walked}
 use Rattle.listing.specs.declared.Turn.{Turn}
-use Rattle.listing.specs.File.{Contents, sites, fault, onto, walk, contents, contentsNumbers}
 use Rattle.listing.specs.Rows.{rowOf, blankRow, padded, turnOf, walkedOf}
-use Rattle.listing.proofs.WalkLaws.{step, walk-end, walk-full, walk-step, contents-some}
 use Rattle.listing.proofs.TurnLaws.{turn-outcome, turn-next, turn-row}
 use Rattle.listing.proofs.MapLaws.{length-map, map-append}
 
 -- sites in front of what the rest holds
-abbrev before : List Site → Contents → Contents
-before ss (sites ts) = sites (ss ++ ts)
+abbrev before : List Site → Contents Site → Contents Site
+before ss (good ts) = good (ss ++ ts)
 before ss (fault rule at) = fault rule at
 
-before-none : (c : Contents) → c ≡ before [] c
-before-none (sites ts) = refl
+before-none : (c : Contents Site) → c ≡ before [] c
+before-none (good ts) = refl
 before-none (fault rule at) = refl
 
-before-onto : (ss : List Site) (s : Site) (c : Contents) → before ss (onto Accepted s c) ≡ before (ss ++ (s ∷ [])) c
-unfolding onto
-before-onto ss s (sites ts) = ap sites (sym (append-snoc ss s ts))
-before-onto ss s (fault rule at) = refl
+before-first : (ss : List Site) (s : Site) (c : Contents Site) → before ss (first s c) ≡ before (ss ++ (s ∷ [])) c
+unfolding first
+before-first ss s (good ts) = ap good (sym (append-snoc ss s ts))
+before-first ss s (fault rule at) = refl
 
 pub record So (f : List ℕ) (rows : List Row) (count at : ℕ) : Type 0 where
   pub ss : List Site
   pub counted : count ≡ length ss
   pub few : count ≤ 500
   pub filled : rows ≡ padded (map rowOf ss)
-  pub rest : contents f ≡ before ss (walk f (500 - count) at)
+  pub rest : contents f ≡ before ss (walkFile (siteAt f) (length f) (500 - count) at)
 
 pub so-start : (f : List ℕ) → 0 < length f → So f (padded []) 0 0
 so-start f h = record {
@@ -47,7 +49,7 @@ so-start f h = record {
   counted = refl;
   few = omega arith;
   filled = refl;
-  rest = contents-some f h ∙ before-none (walk f 500 0);
+  rest = sites-some f h ∙ before-none (walkFile (siteAt f) (length f) 500 0);
 }
 
 -- one more row
@@ -60,24 +62,25 @@ padded-set rs r h =
 module _ {f : List ℕ} {rows : List Row} {count at : ℕ} (so : So f rows count at) where
   pub so-end : length f ≤ at → record { outcome = Accepted; rows = rows; count = count } ≡ walkedOf (contents f)
   unfolding walkedOf
-  so-end h = rw (so .rest, walk-end f (500 - count) at h, append-nil, so .filled, so .counted)
+  so-end h = rw (so .rest, walk-end (siteAt f) (length f) (500 - count) at h, append-nil, so .filled, so .counted)
 
   pub so-full : at < length f → 500 ≤ count → contents f ≡ fault TooMany at
   so-full h l =
       let z : 500 - count ≡ 0 = omega arith in
-      so .rest ∙ rw (z, walk-full f at h)
+      so .rest ∙ rw (z, walk-full (siteAt f) (length f) at h)
 
   module _ (h : at < length f) (l : count < 500) where
-    so-step : contents f ≡ before (so .ss) (step f (500 - (count + 1)) (recordAt f at))
+    so-step : contents f ≡ before (so .ss) (onto (siteAt f at) (walkFile (siteAt f) (length f) (500 - (count + 1))))
     so-step =
         let z : 500 - count ≡ suc (500 - (count + 1)) = omega arith in
-        so .rest ∙ rw (z, walk-step f (500 - (count + 1)) at h)
+        so .rest ∙ rw (z, walk-step (siteAt f) (length f) (500 - (count + 1)) at h)
 
     pub so-bad : {rule : Rule} {p : ℕ} → recordAt f at .outcome ≡ Refused rule p → contents f ≡ fault rule p
     unfolding onto
-    so-bad e = so-step ∙ rw e
+    so-bad e = so-step ∙ rw (record-fault f at e)
 
     pub so-good : recordAt f at .outcome ≡ Accepted → So f (set rows count (rowOf (recordAt f at .site))) (count + 1) (recordAt f at .next)
+    unfolding onto
     so-good e =
         let s = recordAt f at .site in
         let n : count ≡ length (map rowOf (so .ss)) = so .counted ∙ sym (length-map rowOf (so .ss)) in
@@ -86,7 +89,7 @@ module _ {f : List ℕ} {rows : List Row} {count at : ℕ} (so : So f rows count
           counted = simp length-append (omega (arith, so .counted));
           few = omega arith;
           filled = rw (so .filled, n, padded-set (map rowOf (so .ss)) (rowOf s) (omega arith), map-append);
-          rest = so-step ∙ rw (e, before-onto);
+          rest = so-step ∙ rw (record-good f at e, before-first);
         }
 
     -- the same by what a turn gives
@@ -102,17 +105,17 @@ module _ {f : List ℕ} {rows : List Row} {count at : ℕ} (so : So f rows count
       pub turn-on : t .outcome ≡ Accepted → (at < t .next) × (t .next ≤ length f)
       turn-on e =
           let a = turn-outcome (recordAt f at) is ∙ e in
-          rw (← turn-next (recordAt f at) is) (omega (arith, next-after f at a), next-inside f at a)
+          rw (← turn-next (recordAt f at) is) (omega (arith, site-after f at (record-good f at a)), site-inside f at (record-good f at a))
 
 -- an answer, and its numbers
-pub numbers-of : (c : Contents) → outcomeNumbers (walkedOf c .outcome) ≡ contentsNumbers c
+pub numbers-of : (c : Contents Site) → outcomeNumbers (walkedOf c .outcome) ≡ contentsNumbers c
 unfolding walkedOf outcomeNumbers contentsNumbers
-numbers-of (sites ss) = refl
+numbers-of (good ss) = refl
 numbers-of (fault rule at) = refl
 
-pub with-numbers : {w : Walked} (c : Contents) → w ≡ walkedOf c → (w ≡ walkedOf c) × (outcomeNumbers (w .outcome) ≡ contentsNumbers c)
+pub with-numbers : {w : Walked} (c : Contents Site) → w ≡ walkedOf c → (w ≡ walkedOf c) × (outcomeNumbers (w .outcome) ≡ contentsNumbers c)
 with-numbers c e = (e, rw e (numbers-of c))
 
-pub with-fault : {w : Walked} {c : Contents} {rule : Rule} {at : ℕ} → c ≡ fault rule at → w ≡ walkedOf (fault rule at)
+pub with-fault : {w : Walked} {c : Contents Site} {rule : Rule} {at : ℕ} → c ≡ fault rule at → w ≡ walkedOf (fault rule at)
     → (w ≡ walkedOf c) × (outcomeNumbers (w .outcome) ≡ contentsNumbers c)
 with-fault {w} {c} e r = with-numbers c (r ∙ ap walkedOf (sym e))

@@ -1,16 +1,17 @@
 -- How many bytes are shown of a text.
 use Prim.Native.Nat.{ℕ, _≤_}
 use mathlib.Core.Path.{_≡_, refl, sym, ap, _∙_}
-use mathlib.Core.Bool.{Bool, true, false}
 use mathlib.Core.List.{List, _++_}
 use native.Mathlib.Omega.{arith}
-use lib.Dec.{leb}
 use lib.ListN.{length, take, drop, length-append}
 use Rattle.site.specs.declared.Rule.{Rule}
-use Rattle.site.specs.declared.Rule.the-variants.{BufferShort}
+use Rattle.site.specs.declared.Checked.{Checked}
+use Rattle.site.specs.declared.Checked.the-variants.{Passed, Broken}
 use Rattle.text.specs.declared.Listed.{Listed}
 use Rattle.text.specs.declared.Listed.the-variants.{Bytes, Refused}
-use Rattle.text.specs.Answer.{held}
+use Rattle.text.specs.Most.{mostText}
+use Rattle.output.specs.Output.{roomRule, heldAfter, outputCount, held}
+use Rattle.text.specs.Answer.{listedOf}
 use Rattle.text.proofs.AnswerLaws.{Answered, written}
 use Rattle.listing.specs.Listing.{shownLength}
 
@@ -18,31 +19,33 @@ use Rattle.listing.specs.Listing.{shownLength}
 abbrev Shown : List ℕ → List ℕ → List ℕ → ℕ → Type 0
 Shown text d e k =
     ((k ≤ length e) × (k ≡ length (take k e)))
-    × ((k ≡ shownLength text d) × ((e ≡ held text d) × (81551 ≤ length d → take k e ≡ text)))
+    × ((k ≡ shownLength text d) × ((e ≡ held text d) × (mostText ≤ length d → take k e ≡ text)))
 
-pub shown-some : (text d : List ℕ) {e : List ℕ} {r : Listed} (k : ℕ) → r ≡ Bytes k → Answered text d e r → Shown text d e k
-shown-some text d {e} {r} k b a = go (leb (length text) (length d)) refl
+pub shown-some : (text d : List ℕ) {e : List ℕ} {r : Listed} (k : ℕ) → r ≡ Bytes k → Answered mostText text d e r → Shown text d e k
+unfolding listedOf heldAfter outputCount
+shown-some text d {e} {r} k b a = go (roomRule (length text) (length d)) refl
   where
     shows : take k e ≡ text
-    shows = written text d e r a k b
+    shows = written text d e r (a .0) (a .1 .0) k b
 
-    go : (t : Bool) → leb (length text) (length d) ≡ t → Shown text d e k
-    go true t =
+    go : (t : Checked) → roomRule (length text) (length d) ≡ t → Shown text d e k
+    go Passed t =
         let a′ : r ≡ Bytes (length text) = rw t at (a .0) in
         let h′ : e ≡ text ++ drop (length text) d = rw t at (a .1 .0) in
         let n : k ≡ length text = cc in
         ((omega (arith, ap length h′, length-append text (drop (length text) d)), n ∙ sym (ap length shows)), (rw t n, (a .1 .0, λ m. shows)))
-    go false t =
-        let a′ : r ≡ Refused BufferShort 0 = rw t at (a .0) in
+    go (Broken x) t =
+        let a′ : r ≡ Refused x 0 = rw t at (a .0) in
         let z : _≡_ {A = ℕ} 0 1 = cc in
         absurd (omega arith)
 
-pub shown-none : (text d : List ℕ) {e : List ℕ} {r : Listed} {rule : Rule} {at : ℕ} → r ≡ Refused rule at → Answered text d e r → Shown text d e 0
-shown-none text d {e} {r} b a = go (leb (length text) (length d)) refl
+pub shown-none : (text d : List ℕ) {e : List ℕ} {r : Listed} {rule : Rule} {at : ℕ} → r ≡ Refused rule at → Answered mostText text d e r → Shown text d e 0
+unfolding listedOf heldAfter outputCount
+shown-none text d {e} {r} b a = go (roomRule (length text) (length d)) refl
   where
     clash : {n : ℕ} {P : Type 0} → r ≡ Bytes n → P
     clash q = let z : _≡_ {A = ℕ} 0 1 = cc in absurd (omega arith)
 
-    go : (t : Bool) → leb (length text) (length d) ≡ t → Shown text d e 0
-    go true t = clash (rw t at (a .0))
-    go false t = ((omega arith, refl), (rw t, (a .1 .0, λ m. clash (a .1 .1 .1 m))))
+    go : (t : Checked) → roomRule (length text) (length d) ≡ t → Shown text d e 0
+    go Passed t = clash (rw t at (a .0))
+    go (Broken x) t = ((omega arith, refl), (rw t, (a .1 .0, λ m. clash (a .1 .1 .1 m))))

@@ -10,13 +10,13 @@ use Rattle.site.specs.Check.{siteRule}
 use Rattle.judgement.specs.declared.Judged.{Judged}
 use Rattle.judgement.specs.declared.JudgementAnswer.{JudgementAnswer}
 use Rattle.judgement.specs.declared.JudgementAnswer.the-variants.{Given, Refused as NotJudged}
-use Rattle.judgement.specs.Verdicts.{judgedOf, judgementAnswer}
+use Rattle.judgement.specs.Answers.{judgedOf, judgementAnswer}
 use Rattle.judgement.proofs.AnswerLaws.{given}
 use Rattle.record.specs.declared.Outcome.{Outcome}
 use Rattle.record.specs.declared.Outcome.the-variants.{Accepted, Refused}
 use Rattle.record.specs.declared.Found.{Found}
 use Rattle.record.specs.Outer.{recordAt}
-use Rattle.record.proofs.Place.{record-passes}
+use Rattle.record.proofs.Place.{record-good, site-passes}
 use Rattle.text.specs.declared.Row.{Row}
 use Rattle.listing.specs.declared.Turn.{Turn}
 use Rattle.listing.specs.Rows.{blankRow, rowBy, rowOf, turnBy, turnOf}
@@ -28,7 +28,7 @@ module _ (f : List ℕ) (at : ℕ) (x : Found) (is : x ≡ recordAt f at) where
   turn-refused e b = rw (← is, e, b)
 
   passes : x .outcome ≡ Accepted → siteRule (x .site) ≡ Passed
-  passes e = rw (← is) at (record-passes f at (rw is at e))
+  passes e = rw (← is) at (site-passes f at (record-good f at (rw is at e)))
 
   -- a site that was read is judged
   pub judged : {a : JudgementAnswer} {rule : Rule} {P : Type 0} → x .outcome ≡ Accepted → a ≡ judgementAnswer (x .site) → a ≡ NotJudged rule → P
@@ -39,7 +39,7 @@ module _ (f : List ℕ) (at : ℕ) (x : Found) (is : x ≡ recordAt f at) where
 
   pub turn-accepted : {a : JudgementAnswer} {j : Judged} {row : Row} → x .outcome ≡ Accepted → a ≡ judgementAnswer (x .site) → a ≡ Given j → row ≡ rowBy (x .site) j
       → record { outcome = Accepted; row = row; next = x .next } ≡ turnOf (recordAt f at)
-  unfolding turnOf turnBy rowOf judgedOf
+  unfolding turnOf turnBy rowOf
   turn-accepted {a} {j} e d g r =
       let h = given (x .site) (passes e) in
       let q : j ≡ judgedOf (x .site) = cc in

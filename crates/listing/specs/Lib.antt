@@ -1,4 +1,3 @@
-pub mod File
 pub mod Rows
 pub mod Listing
 pub mod Demand3

@@ -5,14 +5,15 @@ use lib.ListN.{length, replicate}
 use Rattle.site.specs.declared.Site.{Site}
 use Rattle.judgement.specs.declared.Verdict.the-variants.{Within}
 use Rattle.judgement.specs.declared.Judged.{Judged}
-use Rattle.judgement.specs.Verdicts.{judgedOf}
+use Rattle.judgement.specs.Answers.{judgedOf}
 use Rattle.record.specs.declared.Outcome.{Outcome}
 use Rattle.record.specs.declared.Outcome.the-variants.{Accepted, Refused}
 use Rattle.record.specs.declared.Found.{Found}
 use Rattle.text.specs.declared.Row.{Row}
 use Rattle.listing.specs.declared.Walked.{Walked}
 use Rattle.listing.specs.declared.Turn.{Turn}
-use Rattle.listing.specs.File.{Contents, sites, fault}
+use Rattle.record.specs.Result.{good, fault}
+use Rattle.record.specs.File.{Contents}
 
 -- the judgement j, under the name of s
 unfoldable pub rowBy : Site → Judged → Row
@@ -43,6 +44,6 @@ turnOf x = turnBy (x .outcome) (x .site) (x .next)
 unfoldable pub padded : List Row → List Row
 padded rs = rs ++ replicate (500 - length rs) blankRow
 
-unfoldable pub walkedOf : Contents → Walked
-walkedOf (sites ss) = record { outcome = Accepted; rows = padded (map rowOf ss); count = length ss }
+unfoldable pub walkedOf : Contents Site → Walked
+walkedOf (good ss) = record { outcome = Accepted; rows = padded (map rowOf ss); count = length ss }
 walkedOf (fault rule at) = record { outcome = Refused rule at; rows = padded []; count = 0 }

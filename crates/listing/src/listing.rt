@@ -1,7 +1,7 @@
 // The listing of a file into a lent buffer.
 ghost use mathlib.Core.Path.{_≡_};
 ghost use Rattle.text.specs.Answer.{listedNumbers};
-ghost use Rattle.listing.specs.File.{contents};
+ghost use Rattle.record.specs.File.{contents};
 ghost use Rattle.listing.specs.Listing.{listAnswer, listNumbers, listHeld};
 ghost use Rattle.listing.specs.Demand3.{Written3};
 use crate::walking::walk;

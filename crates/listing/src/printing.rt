@@ -2,7 +2,9 @@
 ghost use mathlib.Core.Path.{_≡_};
 ghost use Prim.Native.Nat.{_≤_};
 ghost use lib.ListN.{length, take};
-ghost use Rattle.text.specs.Answer.{listedNumbers, answer, answerNumbers, held, Enough};
+ghost use Rattle.text.specs.Most.{mostText};
+ghost use Rattle.output.specs.Output.{heldNumbers, held};
+ghost use Rattle.text.specs.Answer.{listedNumbers, answer, Enough};
 ghost use Rattle.listing.specs.Listing.{reportOf, shownLength};
 ghost use Rattle.listing.specs.Demand3.{Written3};
 use crate::walking::walk;
@@ -15,8 +17,8 @@ use text::put_refusal;
 pub fn report(file: &[u8], out: &mut [u8]) -> Listed
     ensures answer { λ r. ⌜ r ≡ answer (reportOf (now (file .entry))) (now (out .entry)) ⌝ }
     ensures buffer { λ _. ⌜ now (out .exit) ≡ held (reportOf (now (file .entry))) (now (out .entry)) ⌝ }
-    ensures numbers { λ r. ⌜ listedNumbers r ≡ answerNumbers (reportOf (now (file .entry))) (now (out .entry)) ⌝ }
-    ensures enough { λ r. ⌜ Enough (reportOf (now (file .entry))) (now (out .entry)) r ⌝ }
+    ensures numbers { λ r. ⌜ listedNumbers r ≡ heldNumbers (reportOf (now (file .entry))) (now (out .entry)) ⌝ }
+    ensures enough { λ r. ⌜ Enough mostText (reportOf (now (file .entry))) (now (out .entry)) r ⌝ }
     ensures demand3 { λ r. ⌜ Written3 (now (file .entry)) (now (out .exit)) r ⌝ }
 {
     let w = walk(file);
@@ -36,7 +38,7 @@ pub fn shown(file: &[u8], out: &mut [u8]) -> usize
     ensures inside { λ r. ⌜ (r ≤ length (now (out .exit))) × (r ≡ length (take r (now (out .exit)))) ⌝ }
     ensures answer { λ r. ⌜ r ≡ shownLength (reportOf (now (file .entry))) (now (out .entry)) ⌝ }
     ensures buffer { λ _. ⌜ now (out .exit) ≡ held (reportOf (now (file .entry))) (now (out .entry)) ⌝ }
-    ensures enough { λ r. ⌜ (81551 ≤ length (now (out .entry)) → take r (now (out .exit)) ≡ reportOf (now (file .entry))) ⌝ }
+    ensures enough { λ r. ⌜ (mostText ≤ length (now (out .entry)) → take r (now (out .exit)) ≡ reportOf (now (file .entry))) ⌝ }
 {
     let r = report(file, out);
     match r {

@@ -1,7 +1,8 @@
 // The walk over a file: each record is read, loaded and judged once.
 ghost use mathlib.Core.Path.{_≡_};
 ghost use Rattle.record.specs.Outer.{recordAt, outcomeNumbers};
-ghost use Rattle.listing.specs.File.{fault, contents, contentsNumbers};
+ghost use Rattle.record.specs.File.{contents, contentsNumbers};
+ghost use Rattle.record.specs.Result.{fault};
 ghost use Rattle.listing.specs.Rows.{blankRow, rowBy, turnOf, walkedOf};
 use crate::Turn;
 use crate::Walked;

@@ -12,6 +12,7 @@ use Rattle.site.specs.declared.Checked.the-variants.{Passed, Broken}
 use Rattle.loads.specs.declared.Loads.{Loads}
 use Rattle.loads.specs.declared.LoadsAnswer.{LoadsAnswer}
 use Rattle.loads.specs.declared.LoadsAnswer.the-variants.{Given, Refused}
+use Rattle.loads.specs.SiteTerms.{termsOf}
 use Rattle.loads.specs.CriticalLoads.{maxS, minN, maxN, nutN, loadsOf, loadsIf, loadsAnswer, loadsValues}
 
 clash : {r : Rule} {l : Loads} → Given l ≡ Refused r → ⊥
@@ -28,15 +29,15 @@ refused-if Passed l r e = absurd (clash e)
 refused-if (Broken k) l r e = cc
 
 module _ (s : Site) where
-  pub given : (l : Loads) → loadsAnswer s ≡ Given l → (siteRule s ≡ Passed) × (l ≡ loadsOf s)
+  pub given : (l : Loads) → loadsAnswer s ≡ Given l → (siteRule s ≡ Passed) × (l ≡ loadsOf (termsOf s))
   unfolding loadsAnswer
-  given l e = given-if (siteRule s) (loadsOf s) l e
+  given l e = given-if (siteRule s) (loadsOf (termsOf s)) l e
 
   pub refused : (r : Rule) → loadsAnswer s ≡ Refused r → siteRule s ≡ Broken r
   unfolding loadsAnswer
-  refused r e = refused-if (siteRule s) (loadsOf s) r e
+  refused r e = refused-if (siteRule s) (loadsOf (termsOf s)) r e
 
-  values-if : (c : Checked) → loadsValues (loadsIf c (loadsOf s)) ≡ valuesIf c (maxS s ∷ minN s ∷ maxN s ∷ nutN s ∷ [])
+  values-if : (c : Checked) → loadsValues (loadsIf c (loadsOf (termsOf s))) ≡ valuesIf c (maxS (termsOf s) ∷ minN (termsOf s) ∷ maxN (termsOf s) ∷ nutN (termsOf s) ∷ [])
   unfolding loadsValues loadsIf loadsOf valuesIf
   values-if Passed = refl
   values-if (Broken r) = refl
@@ -44,6 +45,6 @@ module _ (s : Site) where
   -- all that the call promises, from its equation
   pub whole :
       (r : LoadsAnswer) → r ≡ loadsAnswer s
-      → (r ≡ loadsAnswer s) × (loadsValues r ≡ valuesIf (siteRule s) (maxS s ∷ minN s ∷ maxN s ∷ nutN s ∷ []))
+      → (r ≡ loadsAnswer s) × (loadsValues r ≡ valuesIf (siteRule s) (maxS (termsOf s) ∷ minN (termsOf s) ∷ maxN (termsOf s) ∷ nutN (termsOf s) ∷ []))
   unfolding loadsAnswer
   whole r is = (is, ap loadsValues is ∙ values-if (siteRule s))

@@ -5,5 +5,6 @@ pub mod UptakeLaws
 pub mod GreatestLaws
 pub mod LevelLaws
 pub mod TermLaws
+pub mod SiteTermLaws
 pub mod OneSiteLaws
 pub mod AnswerLaws

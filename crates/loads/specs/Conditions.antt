@@ -3,6 +3,7 @@ use Prim.Native.Nat.{ℕ, _+_, _*_, _-_, _/_, _≤_, _<_}
 use mathlib.Core.Path.{_≡_}
 use mathlib.Core.List.{List}
 use Rattle.site.specs.declared.Entry.{Entry}
+use Rattle.loads.specs.Most.{mostWeathering, mostA, mostMaxS, mostMinN, mostL, mostNitrogenWeight, mostBaseWeight}
 use Rattle.loads.specs.Uptake.{nitrogenIn, baseIn, weightOf, standSum, baseUptakeOf}
 use Rattle.loads.specs.Hydrogen.{hydrogenOf, alOf, levelOf}
 
@@ -16,32 +17,32 @@ pub record Levels (q k h : ℕ) : Type 0 where
 pub record Weighed (e : Entry) (n b : ℕ) : Type 0 where
   pub nitrogen : n ≡ weightOf nitrogenIn e
   pub base : b ≡ weightOf baseIn e
-  pub nitrogen-le : n ≤ 131070000000
-  pub base-le : b ≤ 393210000000
+  pub nitrogen-le : n ≤ mostNitrogenWeight
+  pub base-le : b ≤ mostBaseWeight
 
 -- the sums over the first k entries
 pub record Summed (stand : List Entry) (k n b : ℕ) : Type 0 where
   pub nitrogen : n ≡ standSum nitrogenIn stand k
   pub base : b ≡ standSum baseIn stand k
-  pub nitrogen-le : n ≤ 524280000000
-  pub base-le : b ≤ 1572840000000
+  pub nitrogen-le : n ≤ 4 * mostNitrogenWeight
+  pub base-le : b ≤ 4 * mostBaseWeight
 
 -- base deposition, percolation, W, w, ratio, gibbsite constant and ceiling
 pub record AcidBounds (b q weathered available ratio k ceiling : ℕ) : Type 0 where
   pub deposition : b ≤ 5000
   pub percolation : q ≤ 3000
-  pub weathering : weathered ≤ 19500
+  pub weathering : weathered ≤ mostWeathering
   pub part : available ≤ weathered
-  pub limit : 1500 * (b + available) ≤ 323625 * ratio
+  pub limit : 1500 * (b + available) ≤ mostA * ratio
   pub divisor : 0 < ratio
   pub gibbsite : k ≤ 10000
   pub level : ceiling ≤ 5000
 
 -- CLmaxS, CLminN, L and e
 pub record NitrogenBounds (c m leached e : ℕ) : Type 0 where
-  pub acid : c ≤ 363125
-  pub nitrogen : m ≤ 100000
-  pub leaching : leached ≤ 30000
+  pub acid : c ≤ mostMaxS
+  pub nitrogen : m ≤ mostMinN
+  pub leaching : leached ≤ mostL
   pub divisor : 0 < e
 
 -- CLmaxS of plain numbers

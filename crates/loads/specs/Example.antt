@@ -11,8 +11,11 @@ use Rattle.loads.specs.Rounding.{up}
 use Rattle.loads.specs.Texture.{textureOf}
 use Rattle.loads.specs.Weathering.{classOf, weatheringOf, weathering, availableWeathering}
 use Rattle.loads.specs.Uptake.{content, nitrogenIn, baseIn, weightOf, sumOver, standSum, nitrogenUptake, baseDemand, baseUptakeOf, baseUptake}
-use Rattle.loads.specs.Hydrogen.{aluminiumLimit, hydrogenOf, alOf, greatestWhere, levelOf, hydrogen, aluminium, greatestLevel, criticalLeaching}
+use Rattle.loads.specs.Hydrogen.{hydrogenOf, alOf, greatestWhere, levelOf, hydrogen, aluminium, greatestLevel, criticalLeaching}
+use Rattle.loads.specs.Supply.{baseSupply, aluminiumLimit}
 use Rattle.loads.specs.Nitrogen.{denitrified, retainedOf, retained, leaching}
+use Rattle.loads.specs.Terms.{Terms}
+use Rattle.loads.specs.SiteTerms.{termsOf}
 use Rattle.loads.specs.CriticalLoads.{maxS, minN, maxN, nutN}
 
 abbrev pub a1 : Site
@@ -43,10 +46,13 @@ passes : siteRule a1 ≡ Passed
 unfolding siteRule fieldsRule andThen itemCount countRule nameByte allOf between entryRanged risingFrom sharesOf standRule valueRule
 passes = refl
 
+abbrev t1 : Terms
+t1 = termsOf a1
+
 -- W, w, Nu, Bu, A, h, al(819), M, L, and the four loads
 terms :
-    weathering a1 ∷ availableWeathering a1 ∷ nitrogenUptake a1 ∷ baseUptake a1 ∷ aluminiumLimit a1 ∷ greatestLevel a1
-    ∷ aluminium a1 819 ∷ criticalLeaching a1 ∷ leaching a1 ∷ maxS a1 ∷ minN a1 ∷ maxN a1 ∷ nutN a1 ∷ []
+    weathering a1 ∷ availableWeathering a1 ∷ t1 .Nu ∷ baseUptake a1 ∷ t1 .A ∷ greatestLevel t1
+    ∷ aluminium t1 819 ∷ criticalLeaching t1 ∷ t1 .L ∷ maxS t1 ∷ minN t1 ∷ maxN t1 ∷ nutN t1 ∷ []
     ≡ 125 ∷ 100 ∷ 155 ∷ 181 ∷ 328 ∷ 818 ∷ 329 ∷ 491 ∷ 40 ∷ 735 ∷ 205 ∷ 1021 ∷ 249 ∷ []
-unfolding up textureOf classOf weatheringOf weathering availableWeathering content nitrogenIn baseIn weightOf sumOver standSum nitrogenUptake baseDemand baseUptakeOf baseUptake aluminiumLimit hydrogenOf alOf greatestWhere levelOf hydrogen aluminium greatestLevel criticalLeaching denitrified retainedOf retained leaching maxS minN maxN nutN
+unfolding termsOf up textureOf classOf weatheringOf weathering availableWeathering content nitrogenIn baseIn weightOf sumOver standSum nitrogenUptake baseDemand baseUptakeOf baseUptake baseSupply aluminiumLimit hydrogenOf alOf greatestWhere levelOf hydrogen aluminium greatestLevel criticalLeaching denitrified retainedOf retained leaching maxS minN maxN nutN
 terms = refl

@@ -1,22 +1,16 @@
--- The aluminium limit, and the hydrogen level: whole tenths of meq per cubic metre.
-use Prim.Native.Nat.{ℕ, zero, suc, _+_, _*_, _-_, _/_, _^_}
+-- The hydrogen level: whole tenths of meq per cubic metre.
+use Prim.Native.Nat.{ℕ, zero, suc, _+_, _*_, _/_, _^_}
 use mathlib.Core.Bool.{Bool}
 use mathlib.Core.List.{List, [], _∷_}
 use lib.Dec.{leb}
 use Rattle.site.specs.Choice.{pick}
 use Rattle.site.specs.Refusal.{ruleNumber, andThen}
 use Rattle.site.specs.Values.{between}
-use Rattle.site.specs.declared.Site.{Site}
 use Rattle.site.specs.declared.Checked.{Checked}
 use Rattle.site.specs.declared.Checked.the-variants.{Passed, Broken}
 use Rattle.loads.specs.declared.LevelAnswer.{LevelAnswer}
 use Rattle.loads.specs.declared.LevelAnswer.the-variants.{Greatest, Refused}
-use Rattle.loads.specs.Weathering.{availableWeathering}
-use Rattle.loads.specs.Uptake.{baseUptake}
-
--- A
-unfoldable pub aluminiumLimit : Site → ℕ
-aluminiumLimit s = 1500 * ((s .«base_deposition») + availableWeathering s - baseUptake s) / (s .ratio)
+use Rattle.loads.specs.Terms.{Terms}
 
 -- hydrogen that percolation q leaches at the level h
 unfoldable pub hydrogenOf : (q h : ℕ) → ℕ
@@ -35,19 +29,19 @@ greatestWhere test (suc n) = let below = greatestWhere test n in pick (test (suc
 unfoldable pub levelOf : (q k limit ceiling : ℕ) → ℕ
 levelOf q k limit ceiling = greatestWhere (λ h. leb (alOf q k h) limit) ceiling
 
--- the same of a site
-unfoldable pub hydrogen : Site → ℕ → ℕ
-hydrogen s h = hydrogenOf (s .percolation) h
+-- the same with the terms of a site
+unfoldable pub hydrogen : Terms → ℕ → ℕ
+hydrogen t h = hydrogenOf (t .Q) h
 
-unfoldable pub aluminium : Site → ℕ → ℕ
-aluminium s h = alOf (s .percolation) (s .gibbsite) h
+unfoldable pub aluminium : Terms → ℕ → ℕ
+aluminium t h = alOf (t .Q) (t .K) h
 
-unfoldable pub greatestLevel : Site → ℕ
-greatestLevel s = levelOf (s .percolation) (s .gibbsite) (aluminiumLimit s) (s .ceiling)
+unfoldable pub greatestLevel : Terms → ℕ
+greatestLevel t = levelOf (t .Q) (t .K) (t .A) (t .H)
 
 -- M
-unfoldable pub criticalLeaching : Site → ℕ
-criticalLeaching s = hydrogen s (greatestLevel s) + aluminium s (greatestLevel s)
+unfoldable pub criticalLeaching : Terms → ℕ
+criticalLeaching t = hydrogen t (greatestLevel t) + aluminium t (greatestLevel t)
 
 -- rule 8 for the numbers of the search
 unfoldable pub levelRule : (q k ceiling : ℕ) → Checked

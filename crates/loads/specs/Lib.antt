@@ -1,9 +1,13 @@
 pub mod Rounding
+pub mod Most
+pub mod Terms
 pub mod Texture
 pub mod Weathering
 pub mod Uptake
-pub mod Hydrogen
+pub mod Supply
 pub mod Nitrogen
+pub mod SiteTerms
+pub mod Hydrogen
 pub mod CriticalLoads
 pub mod OneSite
 pub mod Conditions

@@ -6,7 +6,7 @@ use Rattle.site.specs.Choice.{pick}
 use Rattle.loads.specs.declared.texture.Texture.{Texture}
 use Rattle.loads.specs.declared.texture.Texture.the-variants.{Coarse, Medium, MediumFine, Fine, VeryFine}
 
-unfoldable pub textureNumber : Texture → ℕ
+abbrev pub textureNumber : Texture → ℕ
 textureNumber Coarse = 1
 textureNumber Medium = 2
 textureNumber MediumFine = 3

@@ -5,7 +5,9 @@ ghost use mathlib.Core.List.{[], _∷_};
 ghost use Rattle.site.specs.Bounds.{Bounds};
 ghost use Rattle.site.specs.Check.{siteRule};
 ghost use Rattle.site.specs.Refusal.{valuesIf};
+ghost use Rattle.loads.specs.Most.{mostMaxS};
 ghost use Rattle.loads.specs.Uptake.{baseDemand};
+ghost use Rattle.loads.specs.SiteTerms.{termsOf};
 ghost use Rattle.loads.specs.CriticalLoads.{maxS, minN, maxN, nutN, loadsOf, loadsAnswer, loadsValues};
 ghost use Rattle.loads.specs.Conditions.{AcidBounds, NitrogenBounds, acidLoad};
 use crate::Loads;
@@ -13,7 +15,7 @@ use crate::LoadsAnswer;
 use crate::hydrogen::aluminium_limit;
 use crate::hydrogen::critical_leaching;
 use crate::nitrogen::leaching_of;
-use crate::nitrogen::retained_of;
+use crate::nitrogen::retained_at;
 use crate::uptake::base_uptake;
 use crate::uptake::stand_sums;
 use crate::weathering::available_of;
@@ -37,7 +39,7 @@ fn acid_load(
     ceiling: u64,
 ) -> u64
     requires { ⌜ AcidBounds b q weathered available ratio k ceiling ⌝ }
-    ensures { λ r. ⌜ (r ≡ acidLoad b q weathered available demand ratio k ceiling) × (r ≤ 363125) ⌝ }
+    ensures { λ r. ⌜ (r ≡ acidLoad b q weathered available demand ratio k ceiling) × (r ≤ mostMaxS) ⌝ }
 {
     let supply = b + available;
     let taken = base_uptake(demand, supply, q);
@@ -48,7 +50,7 @@ fn acid_load(
 // CLmaxS, with the base demand at hand
 fn max_s_of(s: Site, demand: u64) -> u64
     requires { ⌜ Bounds s × (demand ≡ baseDemand s) ⌝ }
-    ensures { λ r. ⌜ (r ≡ maxS s) × (r ≤ 363125) ⌝ }
+    ensures { λ r. ⌜ (r ≡ maxS (termsOf s)) × (r ≤ mostMaxS) ⌝ }
 {
     let weathered = weathering_of(s.parent, s.clay, s.sand, s.depth);
     let available = available_of(weathered, wide8(s.available));
@@ -79,7 +81,7 @@ fn with_nitrogen(max_s: u64, min_n: u64, leached: u64, e: u64) -> Loads
 
 fn loads_of(s: Site) -> Loads
     requires { ⌜ Bounds s ⌝ }
-    ensures { λ r. ⌜ r ≡ loadsOf s ⌝ }
+    ensures { λ r. ⌜ r ≡ loadsOf (termsOf s) ⌝ }
 {
     let stand = s.stand;
     let sums = stand_sums(stand, index8(s.entries));
@@ -87,14 +89,14 @@ fn loads_of(s: Site) -> Loads
     let uptake = sums.nitrogen / 10_000_000;
     let min_n = uptake + wide16(s.immobilisation);
     let leached = leaching_of(wide16(s.percolation), wide16(s.leachate));
-    let e = retained_of(s.drainage);
+    let e = retained_at(s);
     with_nitrogen(max_s_of(s, demand), min_n, leached, e)
 }
 
 // The loads of a site, or the first rule that it breaks.
 pub fn critical_loads(site: Site) -> LoadsAnswer
     ensures answer { λ r. ⌜ r ≡ loadsAnswer site ⌝ }
-    ensures values { λ r. ⌜ loadsValues r ≡ valuesIf (siteRule site) (maxS site ∷ minN site ∷ maxN site ∷ nutN site ∷ []) ⌝ }
+    ensures values { λ r. ⌜ loadsValues r ≡ valuesIf (siteRule site) (maxS (termsOf site) ∷ minN (termsOf site) ∷ maxN (termsOf site) ∷ nutN (termsOf site) ∷ []) ⌝ }
 {
     match check_site(site) {
         Checked::Broken(rule) => LoadsAnswer::Refused(rule),

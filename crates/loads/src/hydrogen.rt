@@ -3,6 +3,7 @@ ghost use mathlib.Core.Path.{_≡_};
 ghost use Prim.Native.Nat.{_+_, _*_, _/_, _≤_, _<_};
 ghost use mathlib.Core.List.{[], _∷_};
 ghost use Rattle.site.specs.Refusal.{valuesIf};
+ghost use Rattle.loads.specs.Most.{mostA, mostHydrogen};
 ghost use Rattle.loads.specs.Hydrogen.{hydrogenOf, alOf, levelOf, levelRule, levelAnswer, levelValues};
 ghost use Rattle.loads.specs.Conditions.{Levels};
 use crate::LevelAnswer;
@@ -12,8 +13,8 @@ use site::word_between;
 
 // A: left is B + w − Bu
 pub fn aluminium_limit(left: u64, ratio: u64) -> u64
-    requires { ⌜ (left ≤ 100000) × (0 < ratio) × (1500 * left ≤ 323625 * ratio) ⌝ }
-    ensures { λ r. ⌜ (r ≡ 1500 * left / ratio) × (r ≤ 323625) ⌝ }
+    requires { ⌜ (left ≤ 100000) × (0 < ratio) × (1500 * left ≤ mostA * ratio) ⌝ }
+    ensures { λ r. ⌜ (r ≡ 1500 * left / ratio) × (r ≤ mostA) ⌝ }
 {
     1500 * left / ratio
 }
@@ -50,7 +51,7 @@ fn level(q: u64, k: u64, limit: u64, ceiling: u64) -> u64
 // M
 pub fn critical_leaching(q: u64, k: u64, limit: u64, ceiling: u64) -> u64
     requires { ⌜ Levels q k ceiling ⌝ }
-    ensures { λ r. ⌜ (r ≡ hydrogenOf q (levelOf q k limit ceiling) + alOf q k (levelOf q k limit ceiling)) × (r ≤ 15000 + limit) ⌝ }
+    ensures { λ r. ⌜ (r ≡ hydrogenOf q (levelOf q k limit ceiling) + alOf q k (levelOf q k limit ceiling)) × (r ≤ mostHydrogen + limit) ⌝ }
 {
     let h = level(q, k, limit, ceiling);
     q * h / 1000 + aluminium_at(q, k, h)

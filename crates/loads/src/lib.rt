@@ -9,7 +9,7 @@ mod widen;
 
 pub use critical::critical_loads;
 pub use hydrogen::greatest_level;
-pub use nitrogen::retained_of;
+pub use nitrogen::retained_at;
 use site::Rule;
 
 // The greatest allowed hydrogen level, or the rule that a number breaks.

@@ -1,9 +1,12 @@
 // The part of nitrogen that is not denitrified, and the acceptable leaching.
 ghost use mathlib.Core.Path.{_≡_};
 ghost use Prim.Native.Nat.{_*_, _/_, _≤_};
+ghost use Rattle.loads.specs.Most.{mostL};
 ghost use Rattle.loads.specs.Nitrogen.{denitrified, retainedOf};
+ghost use Rattle.loads.specs.SiteTerms.{termsOf};
 use crate::widen::index8;
 use crate::widen::wide16;
+use site::Site;
 
 // d, per mille, by drainage.
 const DENITRIFIED: [u16; 6] = [0, 100, 200, 400, 700, 800];
@@ -16,7 +19,7 @@ fn denitrified_in(drainage: usize) -> u64
 }
 
 // e, per mille; past the classes nothing is denitrified.
-pub fn retained_of(drainage: u8) -> u64
+fn retained_of(drainage: u8) -> u64
     ensures { λ r. ⌜ r ≡ retainedOf drainage ⌝ }
 {
     let class = index8(drainage);
@@ -26,10 +29,17 @@ pub fn retained_of(drainage: u8) -> u64
     1000 - denitrified_in(class)
 }
 
+// e at a site
+pub fn retained_at(s: Site) -> u64
+    ensures { λ r. ⌜ r ≡ termsOf s .e ⌝ }
+{
+    retained_of(s.drainage)
+}
+
 // L
 pub fn leaching_of(q: u64, c: u64) -> u64
     requires { ⌜ (q ≤ 3000) × (c ≤ 1000) ⌝ }
-    ensures { λ r. ⌜ (r ≡ q * c / 100) × (r ≤ 30000) ⌝ }
+    ensures { λ r. ⌜ (r ≡ q * c / 100) × (r ≤ mostL) ⌝ }
 {
     q * c / 100
 }

@@ -1,6 +1,7 @@
 // Weathering W and its available part w.
 ghost use mathlib.Core.Path.{_≡_};
 ghost use Prim.Native.Nat.{_*_, _/_, _≤_};
+ghost use Rattle.loads.specs.Most.{mostWeathering};
 ghost use Rattle.loads.specs.Weathering.{classOf, weatheringOf};
 ghost use Rattle.loads.specs.Texture.{textureOf};
 use crate::texture::texture_of;
@@ -37,7 +38,7 @@ pub fn weathering_of(parent: u8, clay: u8, sand: u8, depth: u8) -> u64
 }
 
 pub fn available_of(weathered: u64, share: u64) -> u64
-    requires { ⌜ (weathered ≤ 19500) × (share ≤ 85) ⌝ }
+    requires { ⌜ (weathered ≤ mostWeathering) × (share ≤ 85) ⌝ }
     ensures { λ r. ⌜ (r ≡ weathered * share / 100) × (r ≤ weathered) ⌝ }
 {
     weathered * share / 100

@@ -1,52 +1,52 @@
--- Laws of a record's bytes: the field at due tag k, and the record's length.
-use mathlib.Core.Path.{_≡_, refl, sym, ap, _∙_}
+-- Laws of a record's bytes: its fields one after another, for every kind, and the length of a site's record.
+use mathlib.Core.Path.{_≡_, refl, ap}
 use mathlib.Core.List.{List, _++_, _∷_, []}
-use Prim.Native.Nat.{ℕ, _+_, _*_, _/_, _%_, _≤_, _<_}
-use native.Mathlib.Numerals.{add-one}
+use Prim.Native.Nat.{ℕ, _+_, _*_, _/_, _%_, _≤_}
 use native.Mathlib.Omega.{arith}
-use lib.ListN.{length, getD, take, drop, length-append}
-use lib.Seq.{drop-cons}
+use lib.ListN.{length, take, length-append}
 use Rattle.site.specs.declared.Site.{Site}
 use Rattle.site.specs.declared.Checked.the-variants.{Passed}
 use Rattle.site.specs.Check.{siteRule}
 use Rattle.site.specs.Values.{due}
 use Rattle.site.proofs.FieldLaws.{site-passed}
-use Rattle.record.specs.Bytes.{fieldOf, entriesBytes}
-use Rattle.record.specs.Field.{value}
-use Rattle.record.specs.RoundTrip.{Sized}
-use Rattle.record.specs.Writer.{encodeFields, encode, put}
-use Rattle.record.proofs.PutLaws.{put-put, put-zero, field-put}
-use Rattle.record.proofs.ValueLaws.{name-counts, name-long, stand-counts, bytes-long}
+use Rattle.record.specs.Bytes.{fieldOf}
+use Rattle.field.specs.Field.{entriesBytes, value, siteKind}
+use Rattle.field.specs.Kind.{Kind}
+use Rattle.record.specs.Fields.{encodeFields, encodeAs}
+use Rattle.field.specs.Clean.{Sized}
+use Rattle.record.specs.Writer.{encode}
+use Rattle.output.specs.Writing.{Wrote, each}
+use Rattle.output.proofs.WriteLaws.{then}
+use Rattle.field.proofs.ValueLaws.{name-counts, name-long, stand-counts, bytes-long}
 
-abbrev fieldAt : List ℕ → ℕ → Site → List ℕ
-fieldAt ds k s = fieldOf (getD ds k 0) (value (getD ds k 0) s)
+-- head, then value: the field
+pub field-wrote : {l b c : List ℕ} {at n q r : ℕ} (t : ℕ) (v : List ℕ) → n ≡ length v
+    → Wrote l at (t ∷ (n / 256) ∷ (n % 256) ∷ []) b q → Wrote b q v c r → Wrote l at (fieldOf t v) c r
+unfolding fieldOf
+field-wrote {n = n} t v e h w = rw e at (then h w)
 
-module _ (ds : List ℕ) (k : ℕ) (inside : k < length ds) (s : Site) where
-  encode-next : encodeFields (drop k ds) s ≡ fieldAt ds k s ++ encodeFields (drop (k + 1) ds) s
-  unfolding encodeFields
-  encode-next = rw (drop-cons ds k 0, add-one)
+module _ {A : Type 0} (K : Kind A) (s : A) where
+  abbrev pub fieldAt : ℕ → List ℕ
+  fieldAt t = fieldOf t (K .bytes t s)
 
-  module _ (buf : List ℕ) (at : ℕ) (room : at + length (encodeFields (drop k ds) s) ≤ length buf) where
-    pub next-room : at + length (fieldAt ds k s) + length (encodeFields (drop (k + 1) ds) s) ≤ length buf
-    next-room = omega (arith, simp length-append at (ap length encode-next))
+  -- the fields, one after another
+  pub fields-each : (ts : List ℕ) → encodeFields K ts s ≡ each fieldAt ts
+  unfolding encodeFields each
+  fields-each [] = refl
+  fields-each (t ∷ ts) = ap (λ (l : List ℕ). fieldAt t ++ l) (fields-each ts)
 
-    pub put-next : put buf at (encodeFields (drop k ds) s)
-        ≡ put (put buf at (fieldAt ds k s)) (at + length (fieldAt ds k s)) (encodeFields (drop (k + 1) ds) s)
-    put-next = rw encode-next (sym (put-put buf at (fieldAt ds k s) (encodeFields (drop (k + 1) ds) s) next-room))
+  pub length-encode : length (encodeAs K s) ≡ 3 + length (encodeFields K (K .due) s)
+  unfolding encodeAs fieldOf
+  length-encode = omega arith
 
-pub length-encode : (s : Site) → length (encode s) ≡ 3 + length (encodeFields due s)
-unfolding encode fieldOf
-length-encode s = omega arith
-
-pub encode-put : (s : Site) (l b c : List ℕ) (n : ℕ) → n ≡ length (encodeFields due s) → 3 + n ≤ length l
-    → b ≡ put l 0 (82 ∷ (n / 256) ∷ (n % 256) ∷ []) → c ≡ put b 3 (encodeFields due s) → c ≡ encode s ++ drop (length (encode s)) l
-unfolding encode
-encode-put s l b c n e h p q =
-    let r : length (encode s) ≡ 3 + length (encodeFields due s) = length-encode s in
-    field-put l 0 82 (encodeFields due s) n b c _ e refl p q (omega arith) ∙ put-zero l (encode s)
+  -- head, then value: the record
+  pub encode-wrote : {l b c : List ℕ} {at n q r : ℕ} → n ≡ length (encodeFields K (K .due) s)
+      → Wrote l at (K .tag ∷ (n / 256) ∷ (n % 256) ∷ []) b q → Wrote b q (encodeFields K (K .due) s) c r → Wrote l at (encodeAs K s) c r
+  unfolding encodeAs
+  encode-wrote e v w = field-wrote (K .tag) (encodeFields K (K .due) s) e v w
 
 -- 15 heads, 24 bytes of values of one length, the name and the entries
-fields-length : (s : Site) → length (encodeFields due s)
+fields-length : (s : Site) → length (encodeFields siteKind due s)
     ≡ 69 + length (take (s .«name_len») (s .name)) + length (entriesBytes (take (s .entries) (s .stand)))
 unfolding encodeFields value fieldOf
 fields-length s = simp length-append (omega arith)
@@ -56,10 +56,10 @@ module _ (s : Site) (z : Sized s) (e : siteRule s ≡ Passed) where
   record-length =
       let n = name-long s z (site-passed s e 0 (omega arith) .0) in
       let b = bytes-long s z (site-passed s e 6 (omega arith) .0) in
-      omega (arith, length-encode s, fields-length s)
+      omega (arith, length-encode siteKind s, fields-length s)
 
-  pub fields-small : length (encodeFields due s) ≤ 255
+  pub fields-small : length (encodeFields siteKind due s) ≤ 255
   fields-small =
       let n = name-counts s z (site-passed s e 0 (omega arith) .0) in
       let b = stand-counts s z (site-passed s e 6 (omega arith) .0) in
-      omega (arith, length-encode s, record-length)
+      omega (arith, length-encode siteKind s, record-length)

@@ -5,13 +5,16 @@ use Prim.Native.Nat.{ℕ}
 use Rattle.site.specs.declared.Site.{Site}
 use Rattle.site.specs.declared.Entry.{Entry}
 use Rattle.site.specs.Bounds.{noEntry}
-use Rattle.site.specs.Field.{fieldRule, table, entryAt, store}
+use Rattle.field.specs.Field.{table, entryAt, store, entriesBytes, blankSite, value}
+use Rattle.field.specs.Kind.{fieldRule}
 use Rattle.site.specs.Values.{lengthPermitted, valueRule, standRule, between, nameByte, allOf, entryRanged, risingFrom, sharesOf}
-use Rattle.record.specs.Bytes.{fieldOf, entriesBytes}
-use Rattle.record.specs.Field.{blankSite, value}
-use Rattle.record.specs.Reader.{refusedAt, accepted, headRule, unless, walk}
-use Rattle.record.specs.Outer.{outerRule, nextOf, found, recordIn, recordAt, alone, onlyOne, readRecord}
-use Rattle.record.specs.Writer.{encodeFields, encode}
+use Rattle.record.specs.Bytes.{fieldOf}
+use Rattle.record.specs.Result.{unless}
+use Rattle.record.specs.Fields.{headRule, walk, encodeFields, encodeAs}
+use Rattle.record.specs.Records.{outerRule, ending, recordIn, onlyOne, single}
+use Rattle.record.specs.Reader.{accepted, readOf}
+use Rattle.record.specs.Outer.{siteAt, readRecord}
+use Rattle.record.specs.Writer.{encode}
 
 abbrev bytesA1 : List ℕ
 bytesA1 =
@@ -60,9 +63,9 @@ siteA1 = record {
 }
 
 pub a1-read : readRecord bytesA1 ≡ accepted siteA1
-unfolding readRecord onlyOne alone recordAt recordIn found nextOf outerRule headRule unless walk fieldRule refusedAt accepted lengthPermitted table entryAt store valueRule standRule between nameByte allOf entryRanged risingFrom sharesOf blankSite
+unfolding readRecord readOf single onlyOne siteAt recordIn ending outerRule headRule unless walk fieldRule accepted lengthPermitted table entryAt store valueRule standRule between nameByte allOf entryRanged risingFrom sharesOf blankSite
 a1-read = refl
 
 pub a1-written : encode siteA1 ≡ bytesA1
-unfolding encode encodeFields fieldOf value entriesBytes
+unfolding encodeAs encodeFields fieldOf value entriesBytes
 a1-written = refl

@@ -7,43 +7,35 @@ use Prim.Native.Nat.{ℕ, _+_, _/_, _%_, _≤_, _<_}
 use native.Mathlib.Omega.{arith}
 use lib.Dec.{eqb}
 use lib.ListN.{length, getD, take, drop, length-append, length-take, length-drop, take-append-drop, List·getD-eq-default}
-use lib.Seq.{drop-cons, take-all, take-at, drop-at, drop-drop, getD-drop, getD-take}
+use lib.Seq.{drop-cons, take-at, drop-at, drop-drop, getD-drop, getD-take}
 use borrow.Author.Tests.{eq-eqb}
 use Rattle.site.proofs.Tests.{le-or-lt}
 use Rattle.record.specs.Bytes.{fieldOf, statedLen, valueAt, restAt}
-use Rattle.record.specs.RoundTrip.{Bytes}
-use Rattle.record.proofs.EntryLaws.{word-back}
+use Rattle.field.specs.Clean.{Bytes}
+use Rattle.field.proofs.EntryLaws.{word-back}
 
 -- a field
 module _ (t : ℕ) (v : List ℕ) where
-  pub stated-whole : statedLen (fieldOf t v) ≡ length v
-  unfolding fieldOf
-  stated-whole = word-back (length v)
-
   pub length-whole : length (fieldOf t v) ≡ 3 + length v
   unfolding fieldOf
   length-whole = omega arith
-
-  pub tag-whole : eqb (getD (fieldOf t v) 0 0) t ≡ true
-  unfolding fieldOf
-  tag-whole = eq-eqb t t refl
-
-  pub value-whole : valueAt (fieldOf t v) ≡ v
-  unfolding fieldOf
-  value-whole = rw stated-whole (take-all (length v) v (omega arith))
 
   -- and bytes that follow it
   module _ (rest : List ℕ) where
     pub stated : statedLen (fieldOf t v ++ rest) ≡ length v
     unfolding fieldOf
-    stated = stated-whole
+    stated = word-back (length v)
 
     pub field-length : length (fieldOf t v ++ rest) ≡ 3 + (length v + length rest)
     field-length = simp length-append (omega (arith, length-whole))
 
+    pub field-first : getD (fieldOf t v ++ rest) 0 0 ≡ t
+    unfolding fieldOf
+    field-first = refl
+
     pub field-tag : eqb (getD (fieldOf t v ++ rest) 0 0) t ≡ true
     unfolding fieldOf
-    field-tag = tag-whole
+    field-tag = eq-eqb t t refl
 
     pub field-value : valueAt (fieldOf t v ++ rest) ≡ v
     unfolding fieldOf

@@ -1,74 +1,97 @@
--- What an accepted record of a file says.
-use mathlib.Core.Path.{_≡_}
-use mathlib.Core.List.{List}
+-- What a site's record says that was accepted in a file.
+use mathlib.Core.Path.{_≡_, refl, ap}
+use mathlib.Core.List.{List, _++_}
 use Prim.Native.Nat.{ℕ, _+_, _-_, _≤_}
 use native.Mathlib.Omega.{arith}
-use lib.ListN.{length, take, drop, length-drop}
-use lib.Seq.{getD-drop}
+use lib.ListN.{length, getD, take, drop}
+use borrow.Author.Tests.{eqb-true}
+use Rattle.site.specs.declared.Site.{Site}
+use Rattle.site.specs.declared.Rule.{Rule}
 use Rattle.site.specs.declared.Checked.the-variants.{Passed}
 use Rattle.site.specs.Check.{siteRule}
-use Rattle.site.specs.Values.{due}
 use Rattle.record.specs.declared.Found.{Found}
-use Rattle.record.specs.declared.Outcome.{Outcome}
-use Rattle.record.specs.declared.Outcome.the-variants.{Accepted}
-use Rattle.record.specs.Bytes.{statedLen, valueAt}
-use Rattle.record.specs.Field.{blankSite}
-use Rattle.record.specs.Reader.{walk, unless, accepted}
-use Rattle.record.specs.Outer.{outerRule, nextOf, found, recordIn, recordAt}
-use Rattle.record.specs.RoundTrip.{clean, Sized, Bytes}
-use Rattle.record.specs.Writer.{encodeFields, encode}
-use Rattle.record.proofs.FieldBytes.{value-bytes, field-front}
-use Rattle.record.proofs.OuterLaws.{OuterOk, outer-passed}
-use Rattle.record.proofs.Parsed.{accepted-is, unless-accepted}
-use Rattle.record.proofs.WrittenRead.{encode-read}
-use Rattle.record.proofs.PassesLaw.{walked-passes, walked-sized, walked-clean}
+use Rattle.record.specs.declared.Outcome.the-variants.{Accepted, Refused}
+use Rattle.record.specs.Result.{Result, good, fault}
+use Rattle.field.specs.Field.{siteKind}
+use Rattle.record.specs.Records.{mostRecord, recordIn}
+use Rattle.record.specs.Outer.{outcomeNumbers, siteTag, siteKinds, siteAt, foundOf, recordAt}
+use Rattle.field.specs.Clean.{clean, Sized, Bytes}
+use Rattle.record.specs.Writer.{encode}
+use Rattle.record.proofs.EncodeLaws.{fields-small}
+use Rattle.record.proofs.RecordLaws.{AcceptedAt, accepted-at, after, inside, near, moved, record-take, record-moved, record-written, record-read}
+use Rattle.record.proofs.SiteTrips.{walked-passes, walked-sized, walked-clean, encode-read, read-encode}
 
-next-of : (o : Outcome) (at end : ℕ) → o ≡ Accepted → nextOf o at end ≡ end
-unfolding nextOf
-next-of o at end e = rw e
+-- ---- by the definition
 
-record AcceptedAt (bs : List ℕ) (at : ℕ) (x : Found) : Type 0 where
-  pub outer : OuterOk bs
-  pub walked : walk due blankSite (valueAt bs) (at + 3) ≡ accepted (x .site)
-  pub next-is : x .next ≡ at + 3 + statedLen bs
+pub site-take : (m at : ℕ) (f : List ℕ) → at + mostRecord ≤ m → siteAt (take m f) at ≡ siteAt f at
+unfolding siteAt
+site-take m at f h = record-take siteTag siteKinds m at f h
 
-accepted-at : (bs : List ℕ) (at : ℕ) → recordIn bs at .outcome ≡ Accepted → AcceptedAt bs at (recordIn bs at)
-unfolding recordIn found
-accepted-at bs at e =
-    let r = unless (outerRule bs) at (walk due blankSite (valueAt bs) (at + 3)) in
-    let p = unless-accepted (outerRule bs) at (walk due blankSite (valueAt bs) (at + 3)) (r .site) (accepted-is r e) in
-    record { outer = outer-passed bs (p .0); walked = p .1; next-is = next-of (r .outcome) at (at + 3 + statedLen bs) e }
+-- the record of f at `at` is that of what f holds from there on
+pub site-drop : (f : List ℕ) (at : ℕ) → siteAt f at ≡ moved at (siteAt (drop at f) 0)
+unfolding siteAt
+site-drop f at = let e : at + 0 ≡ at = omega arith in rw e at (record-moved siteTag siteKinds at (drop at f) 0)
 
-module _ (f : List ℕ) (at : ℕ) (e : recordAt f at .outcome ≡ Accepted) where
-  accepted-here : AcceptedAt (drop at f) at (recordAt f at)
-  unfolding recordAt
-  accepted-here = accepted-at (drop at f) at e
+module _ (f : List ℕ) (at : ℕ) {x : Site × ℕ} (e : siteAt f at ≡ good x) where
+  here : AcceptedAt siteTag siteKinds (drop at f) at x
+  unfolding siteAt
+  here = accepted-at siteTag siteKinds f at e
 
-  pub next-after : at + 3 ≤ recordAt f at .next
-  next-after = omega (arith, accepted-here .next-is)
+  pub site-after : at + 3 ≤ x .1
+  unfolding siteAt
+  site-after = after siteTag siteKinds f at e
 
-  pub next-inside : recordAt f at .next ≤ length f
-  next-inside = omega (arith, accepted-here .next-is, accepted-here .outer .inside, accepted-here .outer .room, length-drop at f)
+  pub site-inside : x .1 ≤ length f
+  unfolding siteAt
+  site-inside = inside siteTag siteKinds f at e
 
-  pub next-near : recordAt f at .next ≤ at + 258
-  next-near = omega (arith, accepted-here .next-is, accepted-here .outer .small)
+  pub site-near : x .1 ≤ at + mostRecord
+  unfolding siteAt
+  site-near = near siteTag siteKinds f at e
 
-  pub record-passes : siteRule (recordAt f at .site) ≡ Passed
-  record-passes = walked-passes _ _ _ (accepted-here .walked)
+  pub site-passes : siteRule (x .0) ≡ Passed
+  site-passes = walked-passes _ _ _ (here .walked)
 
-  pub record-sized : Sized (recordAt f at .site)
-  record-sized = walked-sized _ _ _ (accepted-here .walked)
+  pub site-sized : Sized (x .0)
+  site-sized = walked-sized _ _ _ (here .walked)
 
-  pub record-clean : clean (recordAt f at .site) ≡ recordAt f at .site
-  record-clean = walked-clean _ _ _ (accepted-here .walked)
+  pub site-clean : clean (x .0) ≡ x .0
+  site-clean = walked-clean _ _ _ (here .walked)
 
   -- its bytes are those of its site
-  pub record-bytes : Bytes f → encode (recordAt f at .site) ≡ take (recordAt f at .next - at) (drop at f)
-  unfolding encode
-  record-bytes b =
-      let bs = drop at f in
-      let o = accepted-here .outer in
-      let c : Bytes bs = λ i. rw getD-drop (b (at + i)) in
-      let v : encodeFields due (recordAt f at .site) ≡ valueAt bs = encode-read _ (valueAt bs) (at + 3) (value-bytes bs c) (accepted-here .walked) in
-      let n : recordAt f at .next - at ≡ 3 + statedLen bs = omega (arith, accepted-here .next-is) in
-      rw (v, n) (field-front 82 bs c (o .tag) (o .inside))
+  pub site-bytes : Bytes f → encode (x .0) ≡ take (x .1 - at) (drop at f)
+  unfolding siteAt
+  site-bytes b =
+      let tag : getD (drop at f) 0 0 ≡ 82 = eqb-true _ _ (here .outer .tag) in
+      record-written siteTag siteKinds f at e b siteKind refl (rw tag) (λ bs a c w. encode-read (x .0) bs a w c)
+
+-- a site that passes is read again from its record, whatever follows it, with zeros past its name and its entries
+pub site-read : (s : Site) → Sized s → siteRule s ≡ Passed → (rest : List ℕ) (at : ℕ)
+    → recordIn siteTag siteKinds (encode s ++ rest) at ≡ good (clean s, at + length (encode s))
+site-read s z e rest at = record-read siteTag siteKinds siteKind s (clean s) rest at refl refl (fields-small s z e) (read-encode s z e (at + 3))
+
+-- ---- by what the call gives
+
+found-good : (at : ℕ) (q : Result (Site × ℕ)) → foundOf at q .outcome ≡ Accepted → q ≡ good (foundOf at q .site, foundOf at q .next)
+unfolding foundOf
+found-good at (good x) o = refl
+found-good at (fault r i) o = let z : _≡_ {A = ℕ} 0 1 = cc in absurd (omega arith)
+
+found-fault : (at : ℕ) (q : Result (Site × ℕ)) {r : Rule} {i : ℕ} → foundOf at q .outcome ≡ Refused r i → q ≡ fault r i
+unfolding foundOf
+found-fault at (good x) o = let z : _≡_ {A = ℕ} 0 1 = cc in absurd (omega arith)
+found-fault at (fault r i) o = cc
+
+module _ (f : List ℕ) (at : ℕ) where
+  pub record-good : recordAt f at .outcome ≡ Accepted → siteAt f at ≡ good (recordAt f at .site, recordAt f at .next)
+  unfolding recordAt
+  record-good o = found-good at (siteAt f at) o
+
+  pub record-fault : {r : Rule} {i : ℕ} → recordAt f at .outcome ≡ Refused r i → siteAt f at ≡ fault r i
+  unfolding recordAt
+  record-fault o = found-fault at (siteAt f at) o
+
+  -- the reader's promises follow from its answer
+  pub found-answers : (x : Found) → Bytes f → x ≡ recordAt f at
+      → (x ≡ recordAt f at) × ((outcomeNumbers (x .outcome) ≡ outcomeNumbers (recordAt f at .outcome)) × (x .outcome ≡ Accepted → encode (x .site) ≡ take (x .next - at) (drop at f)))
+  found-answers x b e = (e, (ap (λ (z : Found). outcomeNumbers (z .outcome)) e, λ o. rw e (site-bytes f at (record-good (rw e at o)) b)))

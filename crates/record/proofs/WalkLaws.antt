@@ -1,12 +1,13 @@
--- Laws of the walk over the fields of a record.
-use mathlib.Core.Path.{_≡_, sym, ap, _∙_}
-use mathlib.Core.List.{List, _++_}
+-- Laws of the walk over the fields of a record, for every kind.
+use mathlib.Core.Path.{_≡_, refl, sym, ap, _∙_}
+use mathlib.Core.Bool.{Bool, true, false}
+use mathlib.Core.List.{List, [], _∷_, _++_}
 use Prim.Native.Nat.{ℕ, _+_, _-_, _≤_, _<_}
-use native.Mathlib.Nat.{add-sub-cancel-left}
+use native.Mathlib.Nat.{add-assoc, add-sub-cancel-left}
 use native.Mathlib.Numerals.{add-one}
 use native.Mathlib.Omega.{arith}
 use lib.Dec.{ltb, eqb}
-use lib.ListN.{length, getD, take, drop, length-drop}
+use lib.ListN.{length, getD, take, drop, length-drop, drop-of-length-le}
 use lib.Seq.{drop-cons, take-all}
 use borrow.Author.Tests.{eqb-true, ltb-false, ne-eqb, le-ltb}
 use Rattle.site.specs.declared.Site.{Site}
@@ -15,14 +16,17 @@ use Rattle.site.specs.declared.Rule.the-variants.{InnerCut, InnerTag}
 use Rattle.site.specs.declared.Checked.{Checked}
 use Rattle.site.specs.declared.Checked.the-variants.{Passed, Broken}
 use Rattle.site.specs.Choice.{pick}
-use Rattle.site.specs.Field.{fieldRule, taken}
-use Rattle.site.specs.Values.{due}
-use Rattle.site.specs.declared.Taken.{Taken}
-use Rattle.site.proofs.TakenLaws.{field-passed, taken-site}
+use Rattle.field.specs.Field.{store, taken, siteKind}
+use Rattle.field.specs.declared.Taken.{Taken}
+use Rattle.field.proofs.KindLaws.{field-passed}
+use Rattle.field.proofs.TakenLaws.{taken-site}
 use Rattle.site.proofs.Passing.{pass-else, pass-then}
-use Rattle.record.specs.Bytes.{statedLen, valueAt, fieldOf}
-use Rattle.record.specs.Reader.{headRule, walk, unless, fieldSite, refusedAt, accepted}
+use Rattle.record.specs.Result.{good, fault, unless}
+use Rattle.record.specs.Bytes.{statedLen, valueAt, restAt, fieldOf}
+use Rattle.field.specs.Kind.{Kind, fieldRule}
+use Rattle.record.specs.Fields.{headRule, walk}
 use Rattle.record.proofs.FieldBytes.{stated, field-length, field-tag}
+use Rattle.record.proofs.ResultLaws.{not-good, good-same, unless-good, movedResult, unless-moved}
 
 -- ---- the head of a field
 
@@ -59,43 +63,94 @@ head-field t v rest =
     let h2 : statedLen bs ≤ length bs - 3 = omega arith in
     rw (ne-eqb _ _ h0, le-ltb _ _ h1, field-tag t v rest, le-ltb _ _ h2)
 
--- ---- a step of the walk, at due tag k
-
 pub rest-all : (l : List ℕ) (e : ℕ) → take (length l - e) (drop e l) ≡ drop e l
 rest-all l e = take-all (length l - e) (drop e l) (simp length-drop (omega arith))
 
-module _ (ds : List ℕ) (k : ℕ) (inside : k < length ds) (s : Site) (bs : List ℕ) (at : ℕ) where
-  pub walk-head : (r : Rule) → headRule (getD ds k 0) bs ≡ Broken r → walk (drop k ds) s bs at ≡ refusedAt r at
-  unfolding walk unless
-  walk-head r e = rw (drop-cons ds k 0, e)
+module _ {A : Type 0} (K : Kind A) where
+  -- ---- a step of the walk, at due tag k
 
-  module _ (ok : headRule (getD ds k 0) bs ≡ Passed) (x : Taken) (end : ℕ) (isEnd : end ≡ 3 + statedLen bs)
-      (took : x ≡ taken (getD ds k 0) (take (end - 3) (drop 3 bs)) s) where
-    took-value : x ≡ taken (getD ds k 0) (valueAt bs) s
-    took-value = rw (isEnd, add-sub-cancel-left) at took
-
-    said : x .checked ≡ fieldRule (getD ds k 0) (valueAt bs) s
-    unfolding taken
-    said = ap (λ (y : Taken). y .checked) took-value
-
-    pub walk-value : (r : Rule) → x .checked ≡ Broken r → walk (drop k ds) s bs at ≡ refusedAt r at
+  module _ (ds : List ℕ) (k : ℕ) (inside : k < length ds) (x : A) (bs : List ℕ) (at : ℕ) where
+    pub walk-head : (r : Rule) → headRule (getD ds k 0) bs ≡ Broken r → walk K (drop k ds) x bs at ≡ fault r at
     unfolding walk unless
-    walk-value r e = rw (drop-cons ds k 0, ok, sym said, e)
+    walk-head r e = rw (drop-cons ds k 0, e)
 
-    pub walk-next : x .checked ≡ Passed
-        → walk (drop k ds) s bs at ≡ walk (drop (k + 1) ds) (x .site) (take (length bs - end) (drop end bs)) (at + end)
-    unfolding walk unless
-    walk-next e =
-        let p = field-passed (getD ds k 0) (valueAt bs) s (sym said ∙ e) in
-        let site : x .site ≡ fieldSite (getD ds k 0) bs s = ap (λ (y : Taken). y .site) took-value ∙ taken-site (getD ds k 0) (valueAt bs) s (p .0) in
-        rw (drop-cons ds k 0, ok, sym said, e, site, rest-all, isEnd, add-one k)
+    module _ (ok : headRule (getD ds k 0) bs ≡ Passed) where
+      pub walk-value : (r : Rule) → fieldRule K (getD ds k 0) (valueAt bs) x ≡ Broken r → walk K (drop k ds) x bs at ≡ fault r at
+      unfolding walk unless
+      walk-value r e = rw (drop-cons ds k 0, ok, e)
 
--- ---- the end of the walk: no tag is due
+      pub walk-next : fieldRule K (getD ds k 0) (valueAt bs) x ≡ Passed → (y : A) → y ≡ K .store (getD ds k 0) (valueAt bs) x
+          → (end : ℕ) → end ≡ 3 + statedLen bs
+          → walk K (drop k ds) x bs at ≡ walk K (drop (k + 1) ds) y (take (length bs - end) (drop end bs)) (at + end)
+      unfolding walk unless
+      walk-next e y is end isEnd = rw (drop-cons ds k 0, ok, e, is, rest-all, isEnd, add-one k)
 
-pub walk-done : (k : ℕ) (s : Site) (bs : List ℕ) (at : ℕ) → 15 ≤ k → k ≤ 15 → length bs ≡ 0 → walk (drop k due) s bs at ≡ accepted s
-unfolding walk
-walk-done k s bs at h g e = let q : k ≡ 15 = omega arith in rw (q, e)
+  -- ---- the end of the walk: no tag is due
 
-pub walk-more : (k : ℕ) (s : Site) (bs : List ℕ) (at : ℕ) → 15 ≤ k → k ≤ 15 → (length bs ≡ 0 → ⊥) → walk (drop k due) s bs at ≡ refusedAt InnerTag at
-unfolding walk
-walk-more k s bs at h g e = let q : k ≡ 15 = omega arith in rw (q, ne-eqb _ _ e)
+  module _ (ds : List ℕ) (k : ℕ) (x : A) (bs : List ℕ) (at : ℕ) (past : length ds ≤ k) where
+    pub walk-done : length bs ≡ 0 → walk K (drop k ds) x bs at ≡ good x
+    unfolding walk
+    walk-done e = let q : drop k ds ≡ [] = drop-of-length-le ds {i = k} past in rw (q, e)
+
+    pub walk-more : (length bs ≡ 0 → ⊥) → walk K (drop k ds) x bs at ≡ fault InnerTag at
+    unfolding walk
+    walk-more e = let q : drop k ds ≡ [] = drop-of-length-le ds {i = k} past in rw (q, ne-eqb _ _ e)
+
+  -- ---- what an accepted walk was
+
+  end-good : (b : Bool) (x s : A) (at : ℕ) → pick b (good x) (fault InnerTag at) ≡ good s → (b ≡ true) × (x ≡ s)
+  end-good true x s at e = (refl, good-same e)
+  end-good false x s at e = not-good e
+
+  pub walk-none : (x s : A) (bs : List ℕ) (at : ℕ) → walk K [] x bs at ≡ good s → (x ≡ s) × (length bs ≡ 0)
+  unfolding walk
+  walk-none x s bs at e =
+      let p = end-good (eqb (length bs) 0) x s at e in
+      (p .1, eqb-true (length bs) 0 (p .0))
+
+  pub record Step (t : ℕ) (ts : List ℕ) (x s : A) (bs : List ℕ) (at : ℕ) : Type 0 where
+    pub head : HeadOk t bs
+    pub passed : fieldRule K t (valueAt bs) x ≡ Passed
+    pub more : walk K ts (K .store t (valueAt bs) x) (restAt bs) (at + (3 + statedLen bs)) ≡ good s
+
+  pub walk-some : (t : ℕ) (ts : List ℕ) (x s : A) (bs : List ℕ) (at : ℕ) → walk K (t ∷ ts) x bs at ≡ good s → Step t ts x s bs at
+  unfolding walk
+  walk-some t ts x s bs at e =
+      let p = unless-good (headRule t bs) at _ e in
+      let q = unless-good (fieldRule K t (valueAt bs) x) at _ (p .1) in
+      record { head = head-passed t bs (p .0); passed = q .0; more = q .1 }
+
+  -- ---- the same bytes at another offset
+
+  end-moved : (d : ℕ) (b : Bool) (x : A) (at : ℕ) (r : Rule) → pick b (good x) (fault r (d + at)) ≡ movedResult d (pick b (good x) (fault r at))
+  unfolding movedResult
+  end-moved d true x at r = refl
+  end-moved d false x at r = refl
+
+  pub walk-moved : (d : ℕ) (ts : List ℕ) (x : A) (bs : List ℕ) (at : ℕ) → walk K ts x bs (d + at) ≡ movedResult d (walk K ts x bs at)
+  unfolding walk
+  walk-moved d [] x bs at = end-moved d (eqb (length bs) 0) x at _
+  walk-moved d (t ∷ ts) x bs at =
+      rw (add-assoc d at (3 + statedLen bs), walk-moved d ts (K .store t (valueAt bs) x) (restAt bs) (at + (3 + statedLen bs)), unless-moved d (fieldRule K t (valueAt bs) x) at)
+      (unless-moved d (headRule t bs) at _)
+
+-- ---- a step of the site's walk, as the code makes it
+
+module _ (ds : List ℕ) (k : ℕ) (inside : k < length ds) (s : Site) (bs : List ℕ) (at : ℕ) (ok : headRule (getD ds k 0) bs ≡ Passed)
+    (x : Taken) (end : ℕ) (isEnd : end ≡ 3 + statedLen bs) (took : x ≡ taken (getD ds k 0) (take (end - 3) (drop 3 bs)) s) where
+  took-value : x ≡ taken (getD ds k 0) (valueAt bs) s
+  took-value = rw (isEnd, add-sub-cancel-left) at took
+
+  said : x .checked ≡ fieldRule siteKind (getD ds k 0) (valueAt bs) s
+  unfolding taken
+  said = ap (λ (y : Taken). y .checked) took-value
+
+  pub site-value : (r : Rule) → x .checked ≡ Broken r → walk siteKind (drop k ds) s bs at ≡ fault r at
+  site-value r e = walk-value siteKind ds k inside s bs at ok r (sym said ∙ e)
+
+  pub site-next : x .checked ≡ Passed
+      → walk siteKind (drop k ds) s bs at ≡ walk siteKind (drop (k + 1) ds) (x .site) (take (length bs - end) (drop end bs)) (at + end)
+  site-next e =
+      let p = field-passed siteKind (getD ds k 0) (valueAt bs) s (sym said ∙ e) in
+      let site : x .site ≡ store (getD ds k 0) (valueAt bs) s = ap (λ (y : Taken). y .site) took-value ∙ taken-site (getD ds k 0) (valueAt bs) s (p .0) in
+      walk-next siteKind ds k inside s bs at ok (sym said ∙ e) (x .site) site end isEnd

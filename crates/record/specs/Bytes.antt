@@ -1,12 +1,8 @@
 -- Document 01, "Record, file, listing": a field is a tag, a two-byte length, a value. Numbers of two bytes have the high byte first.
 use Prim.Native.Nat.{ℕ, _+_, _/_, _%_}
-use mathlib.Core.List.{List, [], _∷_}
+use mathlib.Core.List.{List, _∷_}
 use lib.ListN.{take, drop, length}
-use Rattle.site.specs.declared.Entry.{Entry}
-use Rattle.site.specs.Field.{wordAt}
-
-abbrev pub wordBytes : ℕ → List ℕ
-wordBytes x = (x / 256) ∷ (x % 256) ∷ []
+use Rattle.site.specs.Bytes.{wordAt}
 
 unfoldable pub fieldOf : ℕ → List ℕ → List ℕ
 fieldOf t v = t ∷ (length v / 256) ∷ (length v % 256) ∷ v
@@ -20,8 +16,3 @@ valueAt bs = take (statedLen bs) (drop 3 bs)
 
 abbrev pub restAt : List ℕ → List ℕ
 restAt bs = drop (3 + statedLen bs) bs
-
--- the bytes of entries
-unfoldable pub entriesBytes : List Entry → List ℕ
-entriesBytes [] = []
-entriesBytes (e ∷ es) = (e .species) ∷ (e .share) ∷ (e .«yield_kg» / 256) ∷ (e .«yield_kg» % 256) ∷ entriesBytes es

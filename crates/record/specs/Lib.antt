@@ -1,6 +1,8 @@
+pub mod Result
 pub mod Bytes
-pub mod Field
+pub mod Fields
+pub mod Records
 pub mod Reader
 pub mod Outer
+pub mod File
 pub mod Writer
-pub mod RoundTrip

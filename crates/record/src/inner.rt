@@ -2,18 +2,18 @@
 ghost use mathlib.Core.Path.{_≡_};
 ghost use Prim.Native.Nat.{_+_, _<_, _^_};
 ghost use lib.ListN.{length};
-ghost use Rattle.site.specs.Values.{due};
-ghost use Rattle.record.specs.Field.{blankSite};
-ghost use Rattle.record.specs.Reader.{headRule, walk};
+ghost use Rattle.field.specs.Field.{siteKind};
+ghost use Rattle.record.specs.Fields.{headRule, fieldsIn};
+ghost use Rattle.record.specs.Reader.{readOf};
 use crate::Outcome;
 use crate::Read;
-use crate::blank::blank;
-use crate::blank::refused;
+use crate::answer::refused;
 use crate::bytes::stated_len;
+use field::blank;
+use field::take_field;
 use site::Checked;
 use site::DUE;
 use site::Rule;
-use site::take_field;
 
 // Rules 5 and 6 at the bytes that are left.
 fn head_rule(rest: &[u8], tag: u8) -> Checked
@@ -40,7 +40,7 @@ fn head_rule(rest: &[u8], tag: u8) -> Checked
 // The fields 01 to 0F of a record. The part starts at `base` of the lent input.
 pub fn read_fields(part: &[u8], base: usize) -> Read
     requires { ⌜ base + length (now part) < 2 ^ 64 ⌝ }
-    ensures { λ r. ⌜ r ≡ walk due blankSite (now (part .entry)) base ⌝ }
+    ensures { λ r. ⌜ r ≡ readOf (fieldsIn siteKind (now (part .entry)) base) ⌝ }
 {
     let tags = DUE;
     let mut site = blank();

@@ -1,10 +1,9 @@
 // Site records: reading and writing one.
-mod blank;
+mod answer;
 mod bytes;
 mod inner;
 mod outer;
 mod put;
-mod value;
 mod writer;
 
 pub use outer::read_at;

@@ -1,12 +1,17 @@
 // A record of a file, and the file of at most one record.
 ghost use mathlib.Core.Path.{_≡_};
-ghost use lib.ListN.{drop};
-ghost use Rattle.record.specs.Outer.{outcomeNumbers, outerRule, found, recordAt, onlyOne, readRecord};
+ghost use Prim.Native.Nat.{ℕ, _-_};
+ghost use lib.ListN.{take, drop};
+ghost use Rattle.site.specs.declared.Site.{Site};
+ghost use Rattle.record.specs.Outer.{outcomeNumbers, siteTag, foundOf, recordAt, readRecord};
+ghost use Rattle.record.specs.Reader.{readOf};
+ghost use Rattle.record.specs.Records.{outerRule, ending, onlyOne};
+ghost use Rattle.record.specs.Result.{Result};
 ghost use Rattle.record.specs.Writer.{encode};
 use crate::Found;
 use crate::Outcome;
 use crate::Read;
-use crate::blank::refused;
+use crate::answer::refused;
 use crate::bytes::stated_len;
 use crate::inner::read_fields;
 use site::Checked;
@@ -14,7 +19,7 @@ use site::Rule;
 
 // Rules 2 and 3 at the bytes that are left.
 fn front_rule(rest: &[u8]) -> Checked
-    ensures { λ r. ⌜ r ≡ outerRule (now (rest .entry)) ⌝ }
+    ensures { λ r. ⌜ r ≡ outerRule siteTag (now (rest .entry)) ⌝ }
 {
     let left = rest.len();
     if left < 3 {
@@ -36,7 +41,7 @@ fn front_rule(rest: &[u8]) -> Checked
 
 // The same at an offset, which may lie past the end.
 fn outer_rule(file: &[u8], at: usize) -> Checked
-    ensures { λ r. ⌜ r ≡ outerRule (drop at (now (file .entry))) ⌝ }
+    ensures { λ r. ⌜ r ≡ outerRule siteTag (drop at (now (file .entry))) ⌝ }
 {
     if file.len() < at {
         return Checked::Broken(Rule::OuterCut);
@@ -45,7 +50,7 @@ fn outer_rule(file: &[u8], at: usize) -> Checked
 }
 
 fn found_from(r: Read, at: usize, end: usize) -> Found
-    ensures { λ x. ⌜ x ≡ found r at end ⌝ }
+    ensures { λ x. ⌜ ((q : Result Site) → r ≡ readOf q → x ≡ foundOf at (ending end q)) ⌝ }
 {
     let outcome = r.outcome;
     let site = r.site;
@@ -67,6 +72,7 @@ fn found_from(r: Read, at: usize, end: usize) -> Found
 pub fn read_at(file: &[u8], at: usize) -> Found
     ensures answer { λ r. ⌜ r ≡ recordAt (now (file .entry)) at ⌝ }
     ensures numbers { λ r. ⌜ outcomeNumbers (r .outcome) ≡ outcomeNumbers (recordAt (now (file .entry)) at .outcome) ⌝ }
+    ensures written_again { λ r. ⌜ (r .outcome ≡ Outcome.Accepted → encode (r .site) ≡ take (r .next - at) (drop at (now (file .entry)))) ⌝ }
 {
     match outer_rule(file, at) {
         Checked::Broken(rule) => {
@@ -80,7 +86,7 @@ pub fn read_at(file: &[u8], at: usize) -> Found
 }
 
 fn only_one(x: Found, n: usize) -> Read
-    ensures { λ r. ⌜ r ≡ onlyOne x n ⌝ }
+    ensures { λ r. ⌜ ((at : ℕ) (q : Result (Site × ℕ)) → x ≡ foundOf at q → r ≡ readOf (onlyOne n q)) ⌝ }
 {
     let outcome = x.outcome;
     let site = x.site;

@@ -1,60 +1,49 @@
 // Fields put into a lent buffer.
 ghost use mathlib.Core.List.{[], _∷_};
-ghost use mathlib.Core.Path.{_≡_};
 ghost use Prim.Native.Nat.{_+_, _/_, _%_, _≤_, _<_};
-ghost use lib.ListN.{length, take};
-ghost use Rattle.site.specs.declared.Checked.the-variants.{Passed};
-ghost use Rattle.site.specs.Check.{siteRule};
-ghost use Rattle.site.specs.Values.{due, countRule};
+ghost use lib.ListN.{length};
+ghost use Rattle.site.specs.Values.{due};
+ghost use Rattle.output.specs.Writing.{Wrote};
 ghost use Rattle.record.specs.Bytes.{fieldOf};
-ghost use Rattle.record.specs.Field.{value};
-ghost use Rattle.record.specs.Writer.{encodeFields, put};
-use crate::value::value_of;
+ghost use Rattle.field.specs.Field.{value, siteKind};
+ghost use Rattle.record.specs.Fields.{encodeFields};
+use field::value_of;
+use output::put_bytes;
 use site::DUE;
 use site::Site;
 
-fn copy_in(buf: &mut [u8], at: usize, src: [u8; 16], n: usize)
-    requires { ⌜ (at + n ≤ length (now buf)) × (n ≤ 16) ⌝ }
-    ensures { λ _. ⌜ now (buf .exit) ≡ put (now (buf .entry)) at (take n src) ⌝ }
-{
-    let mut i: usize = 0;
-    while i < n {
-        buf[at + i] = src[i];
-        i = i + 1;
-    }
-}
-
-// Tag and length of a field.
-pub fn put_head(buf: &mut [u8], at: usize, tag: u8, n: usize)
+// Tag and length of a field. Each of these functions returns the index after what it has written.
+pub fn put_head(buf: &mut [u8], at: usize, tag: u8, n: usize) -> usize
     requires { ⌜ (at + 3 ≤ length (now buf)) × (n < 65536) ⌝ }
-    ensures { λ _. ⌜ now (buf .exit) ≡ put (now (buf .entry)) at (tag ∷ (n / 256) ∷ (n % 256) ∷ []) ⌝ }
+    ensures { λ r. ⌜ Wrote (now (buf .entry)) at (tag ∷ (n / 256) ∷ (n % 256) ∷ []) (now (buf .exit)) r ⌝ }
 {
     buf[at] = tag;
     buf[at + 1] = (n / 256) as u8;
     buf[at + 2] = (n % 256) as u8;
+    at + 3
 }
 
 fn put_field(buf: &mut [u8], at: usize, site: Site, tag: u8) -> usize
-    requires { ⌜ (countRule tag site ≡ Passed) × (at + length (fieldOf tag (value tag site)) ≤ length (now buf)) ⌝ }
-    ensures { λ r. ⌜ (now (buf .exit) ≡ put (now (buf .entry)) at (fieldOf tag (value tag site))) × (r ≡ at + length (fieldOf tag (value tag site))) ⌝ }
+    requires { ⌜ at + length (fieldOf tag (value tag site)) ≤ length (now buf) ⌝ }
+    ensures { λ r. ⌜ Wrote (now (buf .entry)) at (fieldOf tag (value tag site)) (now (buf .exit)) r ⌝ }
 {
     let v = value_of(site, tag);
     let n = v.len;
     let bytes = v.bytes;
-    put_head(buf, at, tag, n);
-    copy_in(buf, at + 3, bytes, n);
-    at + 3 + n
+    let a = put_head(buf, at, tag, n);
+    put_bytes(buf, a, &bytes[..n])
 }
 
-pub fn put_fields(buf: &mut [u8], site: Site)
-    requires { ⌜ (siteRule site ≡ Passed) × (3 + length (encodeFields due site) ≤ length (now buf)) ⌝ }
-    ensures { λ _. ⌜ now (buf .exit) ≡ put (now (buf .entry)) 3 (encodeFields due site) ⌝ }
+pub fn put_fields(buf: &mut [u8], at: usize, site: Site) -> usize
+    requires { ⌜ at + length (encodeFields siteKind due site) ≤ length (now buf) ⌝ }
+    ensures { λ r. ⌜ Wrote (now (buf .entry)) at (encodeFields siteKind due site) (now (buf .exit)) r ⌝ }
 {
-    let mut at: usize = 3;
+    let mut o = at;
     let mut k: usize = 0;
     while k < 15 {
         let tag = DUE[k];
-        at = put_field(buf, at, site, tag);
+        o = put_field(buf, o, site, tag);
         k = k + 1;
     }
+    o
 }

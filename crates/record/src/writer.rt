@@ -1,14 +1,13 @@
 // A site's record written into a lent buffer.
-ghost use mathlib.Core.List.{_++_};
 ghost use mathlib.Core.Path.{_≡_};
 ghost use Prim.Native.Nat.{ℕ, _+_, _*_, _≤_};
-ghost use lib.ListN.{length, take, drop};
-ghost use Rattle.site.specs.declared.Checked.the-variants.{Passed};
-ghost use Rattle.site.specs.Check.{siteRule};
+ghost use lib.ListN.{length, take};
+ghost use Rattle.output.specs.Output.{heldAfter, outputNumbers};
+ghost use Rattle.output.specs.Writing.{Wrote};
 ghost use Rattle.record.specs.Outer.{readRecord};
 ghost use Rattle.record.specs.Reader.{accepted};
-ghost use Rattle.record.specs.RoundTrip.{clean};
-ghost use Rattle.record.specs.Writer.{encode, writeRule, answerOf, bufferOf, writtenNumbers};
+ghost use Rattle.field.specs.Clean.{clean};
+ghost use Rattle.record.specs.Writer.{encode, writeRule, answerOf, writtenNumbers};
 use crate::Written;
 use crate::put::put_fields;
 use crate::put::put_head;
@@ -25,19 +24,20 @@ fn body_len(name: u8, entries: u8) -> usize
     15 * 3 + 24 + wide(name) + 4 * wide(entries)
 }
 
-fn put_record(buf: &mut [u8], site: Site, body: usize)
-    requires { ⌜ (siteRule site ≡ Passed) × (length (encode site) ≡ 3 + body) × (body ≤ 1344) × (3 + body ≤ length (now buf)) ⌝ }
-    ensures { λ _. ⌜ now (buf .exit) ≡ encode site ++ drop (length (encode site)) (now (buf .entry)) ⌝ }
+// The record from `at` on; returns the index after it.
+fn put_record(buf: &mut [u8], at: usize, site: Site, body: usize) -> usize
+    requires { ⌜ (length (encode site) ≡ 3 + body) × (body ≤ 1344) × (at + length (encode site) ≤ length (now buf)) ⌝ }
+    ensures { λ r. ⌜ Wrote (now (buf .entry)) at (encode site) (now (buf .exit)) r ⌝ }
 {
-    put_head(buf, 0, 82, body);
-    put_fields(buf, site);
+    let a = put_head(buf, at, 82, body);
+    put_fields(buf, a, site)
 }
 
 // The record of the site at the front of the buffer; a refusal leaves the buffer as it is.
 pub fn write_record(site: Site, buf: &mut [u8]) -> Written
     ensures answer { λ r. ⌜ r ≡ answerOf (writeRule site (length (now (buf .entry)))) (length (encode site)) ⌝ }
-    ensures buffer { λ _. ⌜ now (buf .exit) ≡ bufferOf (writeRule site (length (now (buf .entry)))) (encode site) (now (buf .entry)) ⌝ }
-    ensures numbers { λ r. ⌜ writtenNumbers r ≡ writtenNumbers (answerOf (writeRule site (length (now (buf .entry)))) (length (encode site))) ⌝ }
+    ensures buffer { λ _. ⌜ now (buf .exit) ≡ heldAfter (writeRule site (length (now (buf .entry)))) (encode site) (now (buf .entry)) ⌝ }
+    ensures numbers { λ r. ⌜ writtenNumbers r ≡ outputNumbers (writeRule site (length (now (buf .entry)))) (length (encode site)) ⌝ }
     ensures read_again { λ r. ⌜ ((n : ℕ) → r ≡ Written.Wrote n → readRecord (take n (now (buf .exit))) ≡ accepted (clean site)) ⌝ }
 {
     match check_site(site) {
@@ -50,6 +50,6 @@ pub fn write_record(site: Site, buf: &mut [u8]) -> Written
     if buf.len() < 3 + body {
         return Written::Refused(Rule::BufferShort);
     }
-    put_record(buf, site, body);
-    Written::Wrote(3 + body)
+    let end = put_record(buf, 0, site, body);
+    Written::Wrote(end)
 }

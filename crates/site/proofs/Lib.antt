@@ -4,6 +4,5 @@ pub mod Passing
 pub mod PartLaws
 pub mod StandLaws
 pub mod LengthLaws
-pub mod TakenLaws
 pub mod FieldLaws
 pub mod BoundsLaw

@@ -2,5 +2,5 @@ pub mod Choice
 pub mod Refusal
 pub mod Values
 pub mod Check
-pub mod Field
+pub mod Bytes
 pub mod Bounds

@@ -6,7 +6,7 @@ use Rattle.site.specs.declared.Rule.the-variants.{NoBytes, OuterCut, Out
 use Rattle.site.specs.declared.Checked.{Checked}
 use Rattle.site.specs.declared.Checked.the-variants.{Passed, Broken}
 
-unfoldable pub ruleNumber : Rule → ℕ
+abbrev pub ruleNumber : Rule → ℕ
 ruleNumber NoBytes = 1
 ruleNumber OuterCut = 2
 ruleNumber OuterTag = 3

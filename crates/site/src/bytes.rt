@@ -1,8 +1,7 @@
 // Bytes and numbers of two bytes, high byte first.
 ghost use mathlib.Core.Path.{_≡_};
-ghost use Prim.Native.Nat.{_≤_};
 ghost use lib.ListN.{getD};
-ghost use Rattle.site.specs.Field.{wordOf, wordAt};
+ghost use Rattle.site.specs.Bytes.{wordOf, wordAt};
 
 // The byte at i, or 0 past the end.
 pub fn byte(s: &[u8], i: usize) -> u8
@@ -20,9 +19,12 @@ pub fn word(hi: u8, lo: u8) -> u16
     256 * (hi as u16) + (lo as u16)
 }
 
+// The number whose high byte is at i; past the end stand zeros.
 pub fn word_at(s: &[u8], i: usize) -> u16
-    requires { ⌜ i ≤ 14 ⌝ }
     ensures { λ r. ⌜ r ≡ wordAt (now (s .entry)) i ⌝ }
 {
-    word(byte(s, i), byte(s, i + 1))
+    if s.len() <= i {
+        return 0;
+    }
+    word(s[i], byte(s, i + 1))
 }

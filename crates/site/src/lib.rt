@@ -1,7 +1,6 @@
 // The value of a forest site, the rules of document 01, and the check of a site value.
 mod bytes;
 mod check;
-mod field;
 mod length;
 mod name;
 mod numbers;
@@ -12,11 +11,26 @@ mod value;
 
 pub use bytes::byte;
 pub use bytes::word;
+pub use bytes::word_at;
 pub use check::check_site;
-pub use field::take_field;
+pub use length::length_permitted;
+pub use name::name_rule;
 pub use numbers::wide;
 pub use numbers::word_between;
+pub use ranges::available_rule;
+pub use ranges::base_deposition_rule;
+pub use ranges::ceiling_rule;
+pub use ranges::depth_rule;
+pub use ranges::drainage_rule;
+pub use ranges::gibbsite_rule;
+pub use ranges::immobilisation_rule;
+pub use ranges::leachate_rule;
+pub use ranges::parent_rule;
+pub use ranges::percolation_rule;
+pub use ranges::ratio_rule;
+pub use ranges::texture_rule;
 pub use refusal::rule_number;
+pub use stand::stand_rule;
 
 // The tags 01 to 0F, in the order in which fields are due.
 pub const DUE: [u8; 15] = [1, 2, 3, 4, 5, 6, 7, 8, 9, 10, 11, 12, 13, 14, 15];
@@ -71,10 +85,4 @@ pub enum Rule {
 pub enum Checked {
     Passed,
     Broken(Rule),
-}
-
-// A field taken into a site: what its rules say, and the site.
-pub struct Taken {
-    pub checked: Checked,
-    pub site: Site,
 }

@@ -8,8 +8,8 @@ use native.Mathlib.Nat.{pow-succ', zero-add, suc-add}
 use borrow.Author.Tests.{lt-ltb, le-ltb, ltb-true, ltb-false}
 use lib.Dec.{ltb}
 use lib.ListN.{length, set, length-append}
-use Rattle.text.specs.Writing.{write, Wrote}
-use Rattle.text.proofs.WriteLaws.{write-before}
+use Rattle.output.specs.Writing.{write, Wrote}
+use Rattle.output.proofs.WriteLaws.{write-before}
 use Rattle.text.specs.Decimal.{dec, decimal}
 
 pub dec-small : (f n : ℕ) → n < 10 → dec f n ≡ (48 + n) ∷ []

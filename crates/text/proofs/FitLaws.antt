@@ -8,7 +8,8 @@ use lib.ListN.{length, getD, length-append}
 use Rattle.judgement.specs.declared.Verdict.{Verdict}
 use Rattle.judgement.specs.declared.Verdict.the-variants.{Within, Over}
 use Rattle.text.specs.declared.Row.{Row}
-use Rattle.text.specs.Writing.{each}
+use Rattle.text.specs.Most.{mostLine, mostText}
+use Rattle.output.specs.Writing.{each}
 use Rattle.judgement.specs.Verdicts.{verdictNumbers, verdictWord}
 use Rattle.text.specs.Line.{noRow, loadNumbers, numbersOf, spaced, column, line, Narrow}
 use Rattle.text.specs.Listing.{listing}
@@ -43,12 +44,12 @@ unfolding verdictWord
 mark-most Within = omega arith
 mark-most (Over g a n) = omega arith
 
-pub line-most : (r : Row) → Narrow r → length (line r) ≤ 163
+pub line-most : (r : Row) → Narrow r → length (line r) ≤ mostLine
 line-most r w =
     let numbers : length (each column (numbersOf r)) ≤ 21 * length (numbersOf r) = each-most column 21 0 (numbersOf r) (λ k l. column-most _ (w .numbers k)) in
     omega (arith, w .name, length-line r, mark-most (r .verdict), seven r)
 
 -- the listing of a file
-pub listing-most : (rs : List Row) → length rs ≤ 500 → ((k : ℕ) → k < length rs → Narrow (getD rs k noRow)) → length (listing rs) ≤ 81551
+pub listing-most : (rs : List Row) → length rs ≤ 500 → ((k : ℕ) → k < length rs → Narrow (getD rs k noRow)) → length (listing rs) ≤ mostText
 listing-most rs n w =
-    omega (arith, length-listing rs, each-most line 163 noRow rs (λ k l. line-most (getD rs k noRow) (w k l)))
+    omega (arith, length-listing rs, each-most line mostLine noRow rs (λ k l. line-most (getD rs k noRow) (w k l)))

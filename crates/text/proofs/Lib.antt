@@ -1,6 +1,4 @@
-pub mod WriteLaws
 pub mod DecimalLaws
-pub mod EachLaws
 pub mod LineLaws
 pub mod FitLaws
 pub mod AnswerLaws

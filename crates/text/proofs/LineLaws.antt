@@ -8,7 +8,7 @@ use Rattle.site.specs.declared.Rule.{Rule}
 use Rattle.site.specs.Refusal.{ruleNumber}
 use Rattle.text.specs.declared.Row.{Row}
 use Rattle.text.specs.Decimal.{decimal}
-use Rattle.text.specs.Writing.{each}
+use Rattle.output.specs.Writing.{each}
 use Rattle.judgement.specs.Verdicts.{verdictWord}
 use Rattle.text.specs.Line.{numbersOf, nameText, spaced, column, body, line}
 use Rattle.text.specs.Listing.{headText, header, listing}

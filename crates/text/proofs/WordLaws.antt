@@ -8,7 +8,7 @@ use borrow.Author.Tests.{eq-eqb, ne-eqb, eqb-false, ltb-true, ltb-false}
 use lib.Dec.{eqb, ltb}
 use lib.ListN.{length}
 use Rattle.text.specs.Decimal.{dec, decimal}
-use Rattle.text.specs.Writing.{each}
+use Rattle.output.specs.Writing.{each}
 use Rattle.text.specs.Line.{spaced}
 use Rattle.text.specs.Words.{consTo, split, lastOr, lastWord, free}
 use Rattle.text.proofs.DecimalLaws.{dec-small, dec-step}

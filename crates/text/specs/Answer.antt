@@ -1,12 +1,12 @@
--- What a call answers that writes a text into a lent buffer, and what the buffer then holds.
+-- What a call answers that writes a text into a lent buffer.
 use Prim.Native.Nat.{ℕ, _≤_}
 use mathlib.Core.Path.{_≡_}
-use mathlib.Core.List.{List, _++_}
-use lib.Dec.{leb}
-use lib.ListN.{length, drop}
-use Rattle.site.specs.Choice.{pick}
-use Rattle.site.specs.declared.Rule.the-variants.{BufferShort}
+use mathlib.Core.List.{List}
+use lib.ListN.{length}
 use Rattle.site.specs.Refusal.{ruleNumber}
+use Rattle.site.specs.declared.Checked.{Checked}
+use Rattle.site.specs.declared.Checked.the-variants.{Passed, Broken}
+use Rattle.output.specs.Output.{roomRule}
 use Rattle.text.specs.declared.Listed.{Listed}
 use Rattle.text.specs.declared.Listed.the-variants.{Bytes, Refused}
 
@@ -15,17 +15,14 @@ unfoldable pub listedNumbers : Listed → ℕ × ℕ
 listedNumbers (Bytes n) = (0, n)
 listedNumbers (Refused rule at) = (ruleNumber rule, at)
 
+unfoldable pub listedOf : Checked → ℕ → Listed
+listedOf Passed n = Bytes n
+listedOf (Broken rule) n = Refused rule 0
+
 -- what is answered where text is to be written into d: 11 at 0 exactly where d is shorter
 abbrev pub answer : List ℕ → List ℕ → Listed
-answer text d = pick (leb (length text) (length d)) (Bytes (length text)) (Refused BufferShort 0)
+answer text d = listedOf (roomRule (length text) (length d)) (length text)
 
-abbrev pub answerNumbers : List ℕ → List ℕ → ℕ × ℕ
-answerNumbers text d = pick (leb (length text) (length d)) (0, length text) (11, 0)
-
--- what d then holds
-abbrev pub held : List ℕ → List ℕ → List ℕ
-held text d = pick (leb (length text) (length d)) (text ++ drop (length text) d) d
-
--- 81551 bytes are enough for every text of this crate
-abbrev pub Enough : List ℕ → List ℕ → Listed → Type 0
-Enough text d r = 81551 ≤ length d → r ≡ Bytes (length text)
+-- `most` bytes are enough
+abbrev pub Enough : ℕ → List ℕ → List ℕ → Listed → Type 0
+Enough most text d r = most ≤ length d → r ≡ Bytes (length text)

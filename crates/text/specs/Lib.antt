@@ -1,4 +1,4 @@
-pub mod Writing
+pub mod Most
 pub mod Decimal
 pub mod Line
 pub mod Listing

@@ -7,7 +7,7 @@ use Rattle.judgement.specs.declared.Verdict.the-variants.{Within}
 use Rattle.judgement.specs.Verdicts.{verdictNumbers, verdictWord}
 use Rattle.text.specs.declared.Row.{Row}
 use Rattle.text.specs.Decimal.{decimal}
-use Rattle.text.specs.Writing.{each}
+use Rattle.output.specs.Writing.{each}
 
 -- what a list of rows has past its end
 abbrev pub noRow : Row

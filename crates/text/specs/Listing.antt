@@ -3,7 +3,7 @@ use Prim.Native.Nat.{ℕ}
 use mathlib.Core.List.{List, [], _∷_, _++_}
 use Rattle.text.specs.declared.Row.{Row}
 use Rattle.text.specs.Line.{line}
-use Rattle.text.specs.Writing.{each}
+use Rattle.output.specs.Writing.{each}
 
 -- `id maxS minN maxN nutN region acidEx nutEx verdict`
 unfoldable pub headText : List ℕ

@@ -2,7 +2,7 @@
 ghost use mathlib.Core.Path.{_≡_};
 ghost use Prim.Native.Nat.{_+_, _≤_};
 ghost use lib.ListN.{length};
-ghost use Rattle.text.specs.Writing.{Wrote, each};
+ghost use Rattle.output.specs.Writing.{Wrote, each};
 ghost use Rattle.text.specs.Line.{numbersOf, column};
 use crate::Row;
 use crate::decimal::put_decimal;

@@ -3,7 +3,7 @@ ghost use mathlib.Core.Path.{_≡_};
 ghost use Prim.Native.Nat.{_+_, _≤_};
 ghost use lib.ListN.{length};
 ghost use Rattle.text.specs.Decimal.{decimal};
-ghost use Rattle.text.specs.Writing.{Wrote};
+ghost use Rattle.output.specs.Writing.{Wrote};
 
 // How many decimal digits n has: `bound` is 10 to the power k.
 pub fn width(n: u64) -> usize

@@ -4,7 +4,6 @@ mod decimal;
 mod line;
 mod listing;
 mod refusal;
-mod writing;
 
 use judgement::Verdict;
 pub use listing::put_listing;

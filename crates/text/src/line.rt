@@ -2,15 +2,16 @@
 ghost use mathlib.Core.Path.{_≡_};
 ghost use Prim.Native.Nat.{_+_, _≤_};
 ghost use lib.ListN.{length, take};
-ghost use Rattle.text.specs.Writing.{Wrote};
+ghost use Rattle.text.specs.Most.{mostLine};
+ghost use Rattle.output.specs.Writing.{Wrote};
 ghost use Rattle.judgement.specs.Verdicts.{verdictWord};
 ghost use Rattle.text.specs.Line.{nameText, spaced, line};
 use crate::Row;
 use crate::columns::numbers;
 use crate::columns::numbers_len;
 use crate::columns::put_numbers;
-use crate::writing::put_bytes;
 use judgement::Verdict;
+use output::put_bytes;
 
 // The length of a row's name: bytes past the eighth are none.
 fn name_len(row: Row) -> usize
@@ -53,7 +54,7 @@ fn put_mark(out: &mut [u8], at: usize, v: Verdict) -> usize
 
 // How many bytes a row's line has.
 pub fn line_len(row: Row) -> usize
-    ensures { λ r. ⌜ (r ≡ length (line row)) × (r ≤ 163) ⌝ }
+    ensures { λ r. ⌜ (r ≡ length (line row)) × (r ≤ mostLine) ⌝ }
 {
     let n = name_len(row);
     let ns = numbers(row);

@@ -2,22 +2,24 @@
 ghost use mathlib.Core.Path.{_≡_};
 ghost use Prim.Native.Nat.{_+_, _≤_};
 ghost use lib.ListN.{length, take};
-ghost use Rattle.text.specs.Writing.{Wrote, each};
+ghost use Rattle.text.specs.Most.{mostLines, mostText};
+ghost use Rattle.output.specs.Writing.{Wrote, each};
 ghost use Rattle.text.specs.Line.{line};
-ghost use Rattle.text.specs.Answer.{listedNumbers, answer, answerNumbers, held, Enough};
+ghost use Rattle.output.specs.Output.{heldNumbers, held};
+ghost use Rattle.text.specs.Answer.{listedNumbers, answer, Enough};
 ghost use Rattle.text.specs.Listing.{listing};
 ghost use Rattle.text.specs.Marks.{Marked};
 use crate::Listed;
 use crate::Row;
 use crate::line::line_len;
 use crate::line::put_line;
-use crate::writing::put_bytes;
+use output::put_bytes;
 use site::Rule;
 
 // How many bytes the lines of the first count rows have.
 fn lines_len(rows: [Row; 500], count: usize) -> usize
     requires { ⌜ count ≤ 500 ⌝ }
-    ensures { λ r. ⌜ (r ≡ length (each line (take count rows))) × (r ≤ 81500) ⌝ }
+    ensures { λ r. ⌜ (r ≡ length (each line (take count rows))) × (r ≤ mostLines) ⌝ }
 {
     let mut n = 0;
     let mut i = 0;
@@ -47,8 +49,8 @@ fn put_lines(out: &mut [u8], at: usize, rows: [Row; 500], count: usize) -> usize
 pub fn put_listing(out: &mut [u8], rows: [Row; 500], count: usize) -> Listed
     ensures answer { λ r. ⌜ r ≡ answer (listing (take count rows)) (now (out .entry)) ⌝ }
     ensures buffer { λ _. ⌜ now (out .exit) ≡ held (listing (take count rows)) (now (out .entry)) ⌝ }
-    ensures numbers { λ r. ⌜ listedNumbers r ≡ answerNumbers (listing (take count rows)) (now (out .entry)) ⌝ }
-    ensures enough { λ r. ⌜ Enough (listing (take count rows)) (now (out .entry)) r ⌝ }
+    ensures numbers { λ r. ⌜ listedNumbers r ≡ heldNumbers (listing (take count rows)) (now (out .entry)) ⌝ }
+    ensures enough { λ r. ⌜ Enough mostText (listing (take count rows)) (now (out .entry)) r ⌝ }
     ensures marks { λ r. ⌜ Marked (take count rows) (now (out .exit)) r ⌝ }
 {
     let mut n = count;

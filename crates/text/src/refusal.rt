@@ -1,11 +1,13 @@
 // The line of a refusal.
 ghost use mathlib.Core.Path.{_≡_};
-ghost use Rattle.text.specs.Answer.{listedNumbers, answer, answerNumbers, held, Enough};
+ghost use Rattle.text.specs.Most.{mostText};
+ghost use Rattle.output.specs.Output.{heldNumbers, held};
+ghost use Rattle.text.specs.Answer.{listedNumbers, answer, Enough};
 ghost use Rattle.text.specs.Refusal.{refusal};
 use crate::Listed;
 use crate::decimal::put_decimal;
 use crate::decimal::width;
-use crate::writing::put_bytes;
+use output::put_bytes;
 use site::Rule;
 use site::rule_number;
 
@@ -13,8 +15,8 @@ use site::rule_number;
 pub fn put_refusal(out: &mut [u8], rule: Rule, at: usize) -> Listed
     ensures answer { λ r. ⌜ r ≡ answer (refusal rule at) (now (out .entry)) ⌝ }
     ensures buffer { λ _. ⌜ now (out .exit) ≡ held (refusal rule at) (now (out .entry)) ⌝ }
-    ensures numbers { λ r. ⌜ listedNumbers r ≡ answerNumbers (refusal rule at) (now (out .entry)) ⌝ }
-    ensures enough { λ r. ⌜ Enough (refusal rule at) (now (out .entry)) r ⌝ }
+    ensures numbers { λ r. ⌜ listedNumbers r ≡ heldNumbers (refusal rule at) (now (out .entry)) ⌝ }
+    ensures enough { λ r. ⌜ Enough mostText (refusal rule at) (now (out .entry)) r ⌝ }
 {
     let number = rule_number(rule);
     let offset = at as u64;

@@ -16,7 +16,7 @@ same-length c = search needs
 returns : tie.Need-returns
 returns c =
     let e = c .before .before .before .report .ensures in
-    (c .listed-code .ensures ∙ ap listedCode (e .0), e .1 .0)
+    (c .listed-code .ensures ∙ ap listedCode (e .0), (e .1 .0, rw (e .0) at (e .1 .1 .1 .1)))
 
 pub forest-report-spec : {M : Type 1} → statement M
 forest-report-spec = tie.close (tie.spec report-requires listed-code-requires same-length returns)

@@ -1,4 +1,4 @@
-use Rattle.site.specs.Field.{entryAt}
+use Rattle.field.specs.Field.{entryAt}
 use borrow.Author.Needs.{needs}
 use Rattle.exports.proofs.layout.entry.Statement.{statement}
 use Rattle.exports.proofs.layout.entry.Tie as tie
@@ -12,11 +12,11 @@ add-byte c = search needs
 byte-requires-2 : tie.Need-byte-requires-2
 byte-requires-2 c κs = search needs
 
-add-word-in : tie.Need-add-word-in
-add-word-in c = search needs
+add-word-at : tie.Need-add-word-at
+add-word-at c = search needs
 
-word-in-requires : tie.Need-word-in-requires
-word-in-requires c κs = search needs
+word-at-requires : tie.Need-word-at-requires
+word-at-requires c κs = search needs
 
 returns : tie.Need-returns
 unfolding entryAt
@@ -25,4 +25,4 @@ returns c = cc
 pub entry-spec : {M : Type 1} → statement M
 entry-spec =
     tie.close
-    (tie.spec byte-requires add-byte byte-requires-2 add-word-in word-in-requires returns)
+    (tie.spec byte-requires add-byte byte-requires-2 add-word-at word-at-requires returns)

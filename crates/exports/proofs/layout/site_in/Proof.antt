@@ -27,54 +27,54 @@ byte-requires-5 c κs = search needs
 byte-requires-6 : tie.Need-byte-requires-6
 byte-requires-6 c κs = search needs
 
-word-in-requires : tie.Need-word-in-requires
-word-in-requires c κs = search needs
+word-at-requires : tie.Need-word-at-requires
+word-at-requires c κs = search needs
 
 byte-requires-7 : tie.Need-byte-requires-7
 byte-requires-7 c κs = search needs
 
-word-in-requires-2 : tie.Need-word-in-requires-2
-word-in-requires-2 c κs = search needs
+word-at-requires-2 : tie.Need-word-at-requires-2
+word-at-requires-2 c κs = search needs
 
 byte-requires-8 : tie.Need-byte-requires-8
 byte-requires-8 c κs = search needs
 
-word-in-requires-3 : tie.Need-word-in-requires-3
-word-in-requires-3 c κs = search needs
+word-at-requires-3 : tie.Need-word-at-requires-3
+word-at-requires-3 c κs = search needs
 
-word-in-requires-4 : tie.Need-word-in-requires-4
-word-in-requires-4 c κs = search needs
+word-at-requires-4 : tie.Need-word-at-requires-4
+word-at-requires-4 c κs = search needs
 
-word-in-requires-5 : tie.Need-word-in-requires-5
-word-in-requires-5 c κs = search needs
+word-at-requires-5 : tie.Need-word-at-requires-5
+word-at-requires-5 c κs = search needs
 
-word-in-requires-6 : tie.Need-word-in-requires-6
-word-in-requires-6 c κs = search needs
+word-at-requires-6 : tie.Need-word-at-requires-6
+word-at-requires-6 c κs = search needs
 
-word-in-requires-7 : tie.Need-word-in-requires-7
-word-in-requires-7 c κs = search needs
+word-at-requires-7 : tie.Need-word-at-requires-7
+word-at-requires-7 c κs = search needs
 
-word-in-requires-8 : tie.Need-word-in-requires-8
-word-in-requires-8 c κs = search needs
+word-at-requires-8 : tie.Need-word-at-requires-8
+word-at-requires-8 c κs = search needs
 
-word-in-requires-9 : tie.Need-word-in-requires-9
-word-in-requires-9 c κs = search needs
+word-at-requires-9 : tie.Need-word-at-requires-9
+word-at-requires-9 c κs = search needs
 
 returns : tie.Need-returns
 unfolding siteIn
 returns c =
     rw (
-      c .word-in9 .ensures,
-      c .before .word-in8 .ensures,
-      c .before .before .word-in7 .ensures,
-      c .before .before .before .word-in6 .ensures,
-      c .before .before .before .before .word-in5 .ensures,
-      c .before .before .before .before .before .word-in4 .ensures,
-      c .before .before .before .before .before .before .word-in3 .ensures,
+      c .word-at9 .ensures,
+      c .before .word-at8 .ensures,
+      c .before .before .word-at7 .ensures,
+      c .before .before .before .word-at6 .ensures,
+      c .before .before .before .before .word-at5 .ensures,
+      c .before .before .before .before .before .word-at4 .ensures,
+      c .before .before .before .before .before .before .word-at3 .ensures,
       c .before .before .before .before .before .before .before .byte8 .ensures,
-      c .before .before .before .before .before .before .before .before .word-in2 .ensures,
+      c .before .before .before .before .before .before .before .before .word-at2 .ensures,
       c .before .before .before .before .before .before .before .before .before .byte7 .ensures,
-      c .before .before .before .before .before .before .before .before .before .before .word-in .ensures,
+      c .before .before .before .before .before .before .before .before .before .before .word-at .ensures,
       c .before .before .before .before .before .before .before .before .before .before .before .byte6 .ensures,
       c .before .before .before .before .before .before .before .before .before .before .before .before .byte5 .ensures,
       c .before .before .before .before .before .before .before .before .before .before .before .before .before .byte4 .ensures,
@@ -97,15 +97,15 @@ site-in-spec =
     byte-requires-4
     byte-requires-5
     byte-requires-6
-    word-in-requires
+    word-at-requires
     byte-requires-7
-    word-in-requires-2
+    word-at-requires-2
     byte-requires-8
-    word-in-requires-3
-    word-in-requires-4
-    word-in-requires-5
-    word-in-requires-6
-    word-in-requires-7
-    word-in-requires-8
-    word-in-requires-9
+    word-at-requires-3
+    word-at-requires-4
+    word-at-requires-5
+    word-at-requires-6
+    word-at-requires-7
+    word-at-requires-8
+    word-at-requires-9
     returns)

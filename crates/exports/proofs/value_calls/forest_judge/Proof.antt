@@ -5,10 +5,11 @@ use Rattle.site.specs.Check.{siteRule}
 use Rattle.site.specs.declared.Rule.the-variants.{BadLength}
 use Rattle.site.specs.declared.Checked.the-variants.{Passed}
 use Rattle.loads.specs.CriticalLoads.{loadsOf}
-use Rattle.judgement.specs.Verdicts.{judgedOf}
+use Rattle.judgement.specs.Answers.{judgedOf}
 use Rattle.judgement.proofs.AnswerLaws.{judged, refused as Judgement·refused}
 use Rattle.exports.specs.Layout.{siteIn, valueCheck, loadsNumbers, judgementNumbers}
-use Rattle.exports.proofs.ValueLaws.{wrong-length, as-site, refused, short, written, stored-eight}
+use Rattle.exports.proofs.ValueLaws.{wrong-length, as-site, refused, short, written, length-judged, with-marks}
+use Rattle.output.proofs.WriteLaws.{then}
 use borrow.Author.Needs.{needs}
 use Rattle.exports.proofs.value_calls.forest_judge.Statement.{statement}
 use Rattle.exports.proofs.value_calls.forest_judge.Tie as tie
@@ -26,7 +27,8 @@ returns : tie.Need-returns
 returns c =
     let s = c .before .before .before .before in
     let b = now (s .args .site) in
-    rw (c .refused .ensures) (refused b BadLength 8 (judgementNumbers (siteIn b)) (now (s .args .out)) (wrong-length b (c .before .if1 .taken)))
+    rw (c .refused .ensures)
+    (with-marks b (now (s .args .out)) _ (refused b BadLength 8 (judgementNumbers (siteIn b)) (now (s .args .out)) (wrong-length b (c .before .if1 .taken))))
 
 -- the value passed, and this is its judgement
 judged-site :
@@ -61,7 +63,7 @@ returns-2 c =
     let s = at .before .before .before .before .before in
     let b = now (s .args .site) in
     rw (c .refused3 .ensures)
-    (short b 8 (judgementNumbers (siteIn b)) (now (s .args .out)) (judged-site (c .before .before) .0) (c .before .if2 .taken))
+    (with-marks b (now (s .args .out)) _ (short b 8 (judgementNumbers (siteIn b)) (now (s .args .out)) (judged-site (c .before .before) .0) (omega arith)))
 
 verdict-marked-requires : tie.Need-verdict-marked-requires
 verdict-marked-requires c κs = search needs
@@ -78,8 +80,8 @@ returns-3 c =
     let s = at .before .before .before .before .before in
     let b = now (s .args .site) in
     rw (c .refused2 .ensures)
-    (refused b _ 8 (judgementNumbers (siteIn b)) (now (s .args .out))
-    (site-rule at ∙ Judgement·refused (at .before .site-in .result) _ (sym (at .judge .ensures .0) ∙ c .before .before .rule .given .1)))
+    (with-marks b (now (s .args .out)) _ (refused b _ 8 (judgementNumbers (siteIn b)) (now (s .args .out))
+    (site-rule at ∙ Judgement·refused (at .before .site-in .result) _ (sym (at .judge .ensures .0) ∙ c .before .before .rule .given .1))))
 
 same-length : tie.Need-same-length
 same-length c = search needs
@@ -95,10 +97,9 @@ returns-4 c =
     let b = now (s .args .site) in
     let old = now (s .args .out) in
     let j = judged-site told in
-    let v = told .before .judged .given .0 .0 .verdict in
-    written b 8 (judgementNumbers (siteIn b)) old _ (j .0) (omega arith)
-    (stored-eight _ _ _ _ v (marked .verdict-marked .result) old _ _ (marked .verdict-marked .ensures) (omega arith) (first .put-four .ensures) (second .put-four2 .ensures)
-    ∙ rw (j .1))
+    let w = then (first .put-four .ensures) (second .put-four2 .ensures) in
+    with-marks b old _ (written b 8 (judgementNumbers (siteIn b)) old _ (j .0) (length-judged (siteIn b)) (omega arith)
+    (rw (j .1) at (rw (marked .verdict-marked .ensures) at w)))
 
 pub forest-judge-spec : {M : Type 1} → statement M
 forest-judge-spec =

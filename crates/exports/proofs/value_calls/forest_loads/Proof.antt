@@ -1,13 +1,13 @@
-use mathlib.Core.Path.{_≡_, sym, _∙_}
+use mathlib.Core.Path.{_≡_, refl, sym, _∙_}
 use native.Mathlib.Omega.{arith}
 use denote.Ref.{now}
 use Rattle.site.specs.Check.{siteRule}
 use Rattle.site.specs.declared.Rule.the-variants.{BadLength}
 use Rattle.site.specs.declared.Checked.the-variants.{Passed}
+use Rattle.loads.specs.SiteTerms.{termsOf}
 use Rattle.loads.specs.CriticalLoads.{loadsOf}
 use Rattle.loads.proofs.AnswerLaws.{given, refused as Loads·refused}
 use Rattle.exports.specs.Layout.{siteIn, valueCheck, loadsNumbers}
-use Rattle.exports.proofs.ResultLaws.{four}
 use Rattle.exports.proofs.ValueLaws.{wrong-length, as-site, refused, short, written}
 use borrow.Author.Needs.{needs}
 use Rattle.exports.proofs.value_calls.forest_loads.Statement.{statement}
@@ -31,7 +31,7 @@ returns c =
 -- the value passed, and these are its loads
 loaded :
     (c : tie.After-known-told2) → let b = now (c .before .before .before .before .before .before .before .before .args .site) in
-    (valueCheck b ≡ Passed) × (c .before .l .given .0 .0 ≡ loadsOf (siteIn b))
+    (valueCheck b ≡ Passed) × (c .before .l .given .0 .0 ≡ loadsOf (termsOf (siteIn b)))
 loaded c =
     let at = c .before .before .before in
     let g = given (at .before .site-in .result) _ (sym (at .critical-loads .ensures .0) ∙ c .before .l .given .1) in
@@ -87,8 +87,7 @@ returns-4 c =
     let b = now (s .args .site) in
     let old = now (s .args .out) in
     let l = loaded told in
-    written b 4 (loadsNumbers (siteIn b)) old _ (l .0) (omega arith)
-    (put .put-four .ensures ∙ four _ _ _ _ old (omega arith) ∙ rw (l .1))
+    written b 4 (loadsNumbers (siteIn b)) old _ (l .0) refl (omega arith) (rw (l .1) at (put .put-four .ensures))
 
 pub forest-loads-spec : {M : Type 1} → statement M
 forest-loads-spec =

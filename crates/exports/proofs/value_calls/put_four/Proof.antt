@@ -1,5 +1,8 @@
 use native.Mathlib.Omega.{arith}
-use lib.ListN.{length-set}
+use mathlib.Core.Path.{_≡_}
+use lib.ListN.{length, length-set}
+use Rattle.output.proofs.WriteLaws.{stored, and-stored, ending}
+use Rattle.exports.proofs.ResultLaws.{four}
 use borrow.Author.Needs.{needs}
 use Rattle.exports.proofs.value_calls.put_four.Statement.{statement}
 use Rattle.exports.proofs.value_calls.put_four.Tie as tie
@@ -53,7 +56,10 @@ same-length : tie.Need-same-length
 same-length c = search needs
 
 returns : tie.Need-returns
-returns c = search needs
+returns c =
+    let a = c .args in
+    let e : length (a .t3) ≡ 4 = search needs in
+    rw (← four (a .t3) e) (ending (and-stored (and-stored (and-stored (stored _ _ _) _ _ (omega arith)) _ _ (omega arith)) _ _ (omega arith)) _ (omega arith))
 
 pub put-four-spec : {M : Type 1} → statement M
 put-four-spec =

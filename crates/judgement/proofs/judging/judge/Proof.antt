@@ -3,12 +3,13 @@ use mathlib.Core.Path.{_≡_, sym, _∙_}
 use Rattle.site.specs.Check.{siteRule}
 use Rattle.site.specs.declared.Site.{Site}
 use Rattle.site.specs.declared.Checked.the-variants.{Passed}
-use Rattle.site.proofs.BoundsLaw.{bounds}
-use Rattle.loads.specs.Nitrogen.{retained}
+use Rattle.loads.specs.Most.{mostMaxS}
+use Rattle.loads.specs.SiteTerms.{termsOf}
 use Rattle.loads.specs.CriticalLoads.{loadsOf}
 use Rattle.loads.proofs.AnswerLaws.{given, refused}
-use Rattle.loads.proofs.TermLaws.{retained-is, term-bounds}
-use Rattle.judgement.specs.Verdicts.{judgedOf, judgementIf, judgementAnswer}
+use Rattle.loads.proofs.TermLaws.{maxS-le}
+use Rattle.judgement.specs.Answers.{judgedOf, judgementIf, judgementAnswer}
+use Rattle.judgement.proofs.AtSites.{site-bounds}
 use Rattle.judgement.proofs.AnswerLaws.{whole, verdict-by-loads}
 use borrow.Author.Needs.{needs}
 use Rattle.judgement.proofs.judging.judge.Statement.{statement}
@@ -17,15 +18,12 @@ use Rattle.judgement.proofs.judging.judge.Tie as tie
 -- the site passed the check, and these are its loads
 loaded :
     (c : tie.After-known-told2) → let s = c .before .before .before .before .args .site in
-    (siteRule s ≡ Passed) × (c .before .l .given .0 .0 ≡ loadsOf s)
+    (siteRule s ≡ Passed) × (c .before .l .given .0 .0 ≡ loadsOf (termsOf s))
 loaded c = given (c .before .before .before .before .args .site) _ (sym (c .before .before .before .critical-loads .ensures .0) ∙ c .before .l .given .1)
 
-retained-site : (c : tie.After-retained-of) → c .retained-of .result ≡ retained (c .before .before .before .before .before .args .site)
-retained-site c = c .retained-of .ensures ∙ sym (retained-is (c .before .before .before .before .before .args .site))
-
-max-s-le : (s : Site) → siteRule s ≡ Passed → loadsOf s .«max_s» ≤ 363125
+max-s-le : (s : Site) → siteRule s ≡ Passed → loadsOf (termsOf s) .«max_s» ≤ mostMaxS
 unfolding loadsOf
-max-s-le s p = term-bounds s (bounds s p) .maxS-le
+max-s-le s p = maxS-le (termsOf s) (site-bounds s p)
 
 critical-loads-requires : tie.Need-critical-loads-requires
 critical-loads-requires c κs = search needs
@@ -36,17 +34,17 @@ enum-known-rule c = search needs
 enum-known-l : tie.Need-enum-known-l
 enum-known-l c = search needs
 
-retained-of-requires : tie.Need-retained-of-requires
-retained-of-requires c κs = search needs
+retained-at-requires : tie.Need-retained-at-requires
+retained-at-requires c κs = search needs
 
 verdict-at-requires : tie.Need-verdict-at-requires
 verdict-at-requires c κs =
     let s = c .before .before .before .before .before .args .site in
     let l = loaded (c .before) in
-    let t = term-bounds s (bounds s (l .0)) in (
+    let t = site-bounds s (l .0) in (
       rw (l .1) (max-s-le s (l .0)),
-      rw (retained-site c) (t .retained-least),
-      rw (retained-site c) (t .retained-most),
+      rw (c .retained-at .ensures) (t .e-least),
+      rw (c .retained-at .ensures) (t .e-most),
     )
 
 returns : tie.Need-returns
@@ -60,7 +58,7 @@ unfolding judgementAnswer judgementIf judgedOf
 returns-2 c =
     let s = c .before .before .before .before .before .before .args .site in
     let l = loaded (c .before .before) in
-    whole s _ (rw (l .0, c .verdict-at .ensures, l .1, retained-site (c .before), verdict-by-loads s (s .sulphur) (s .nitrogen)))
+    whole s _ (rw (l .0, c .verdict-at .ensures, l .1, c .before .retained-at .ensures, verdict-by-loads (termsOf s) (s .sulphur) (s .nitrogen)))
 
 pub judge-spec : {M : Type 1} → statement M
 judge-spec =
@@ -69,7 +67,7 @@ judge-spec =
     critical-loads-requires
     enum-known-rule
     enum-known-l
-    retained-of-requires
+    retained-at-requires
     verdict-at-requires
     returns
     returns-2)

@@ -1,5 +1,5 @@
 use denote.Ref.{now}
-use Rattle.listing.specs.File.{contents}
+use Rattle.record.specs.File.{contents}
 use Rattle.listing.proofs.ListLaws.{found-sites, found-fault, by-sites, reported-sites, reported-fault}
 use borrow.Author.Needs.{needs}
 use Rattle.listing.proofs.printing.report.Statement.{statement}

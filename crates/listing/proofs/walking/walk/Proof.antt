@@ -5,9 +5,9 @@ use native.Mathlib.Omega.{arith}
 use borrow.Author.Needs.{needs}
 use denote.Ref.{now}
 use lib.ListN.{length, length-set}
-use Rattle.listing.specs.File.{contents}
+use Rattle.record.specs.File.{contents}
 use Rattle.listing.specs.Rows.{padded}
-use Rattle.listing.proofs.WalkLaws.{contents-none}
+use Rattle.record.proofs.SiteFile.{sites-none}
 use Rattle.listing.proofs.LoopLaws.{So, so-start, so-end, so-full, turn-bad, turn-good, turn-on, with-numbers, with-fault}
 use Rattle.listing.proofs.walking.walk.Statement.{statement}
 use Rattle.listing.proofs.walking.walk.Tie as tie
@@ -22,7 +22,7 @@ refused-requires : tie.Need-refused-requires Inv-loop μ-loop
 refused-requires c κs = search needs
 
 returns : tie.Need-returns Inv-loop μ-loop
-returns c = with-fault (contents-none (now (c .before .before .before .args .file)) (omega arith)) (c .refused .ensures)
+returns c = with-fault (sites-none (now (c .before .before .before .args .file)) (omega arith)) (c .refused .ensures)
 
 blank-row-requires : tie.Need-blank-row-requires Inv-loop μ-loop
 blank-row-requires c κs = search needs
@@ -35,7 +35,7 @@ refused-requires-2 : tie.Need-refused-requires-2 Inv-loop μ-loop
 refused-requires-2 c κs = search needs
 
 returns-2 : tie.Need-returns-2 Inv-loop μ-loop
-returns-2 c = with-fault (so-full (c .before .before .before .loop .inv .3) (c .before .before .loop-test .taken) (c .before .if2 .taken)) (c .refused2 .ensures)
+returns-2 c = with-fault (so-full (c .before .before .before .loop .inv .3) (c .before .before .loop-test .taken) (omega arith)) (c .refused2 .ensures)
 
 turn-requires : tie.Need-turn-requires Inv-loop μ-loop
 turn-requires c κs = search needs

@@ -1,14 +1,10 @@
-use mathlib.Core.Path.{_≡_}
 use native.Mathlib.Omega.{arith}
-use Rattle.loads.specs.Nitrogen.{retained}
-use Rattle.loads.specs.CriticalLoads.{loadsOf}
-use Rattle.loads.proofs.TermLaws.{demand-is, minN-plain, maxN-is, nutN-is, leaching-is, retained-is, term-bounds}
+use Rattle.loads.specs.SiteTerms.{termsOf}
+use Rattle.loads.proofs.TermLaws.{loads-by}
+use Rattle.loads.proofs.SiteTermLaws.{demand-is, minN-plain, leaching-is, term-bounds}
 use borrow.Author.Needs.{needs}
 use Rattle.loads.proofs.critical.loads_of.Statement.{statement}
 use Rattle.loads.proofs.critical.loads_of.Tie as tie
-
-retained-site : (c : tie.After-retained-of) → c .retained-of .result ≡ retained (c .before .before .before .before .before .before .before .before .before .before .args .s)
-retained-site c = rw (c .retained-of .ensures, retained-is (c .before .before .before .before .before .before .before .before .before .before .args .s))
 
 index8-requires : tie.Need-index8-requires
 index8-requires c κs = search needs
@@ -34,8 +30,8 @@ wide16-requires-3 c κs = search needs
 leaching-of-requires : tie.Need-leaching-of-requires
 leaching-of-requires c κs = search needs
 
-retained-of-requires : tie.Need-retained-of-requires
-retained-of-requires c κs = search needs
+retained-at-requires : tie.Need-retained-at-requires
+retained-at-requires c κs = search needs
 
 max-s-of-requires : tie.Need-max-s-of-requires
 max-s-of-requires c κs =
@@ -50,29 +46,18 @@ with-nitrogen-requires c κs =
       acid = c .max-s-of .ensures .1;
       nitrogen = omega (arith, at .stand-sums .ensures .nitrogen-le, c .before .before .before .before .before .wide16 .ensures .0, b .immobilisation);
       leaching = c .before .before .leaching-of .ensures .1;
-      divisor = rw (retained-site (c .before)) (term-bounds (at .before .before .before .args .s) b .retained-least);
+      divisor = rw (c .before .retained-at .ensures) (term-bounds (at .before .before .before .args .s) b .e-least);
     }
 
 returns : tie.Need-returns
-unfolding loadsOf
 returns c =
     let at = c .before .before .before .before .before .before .before .before .before in
     let s = at .before .before .before .args .s in
-    rw (
-      c .with-nitrogen .ensures,
-      maxN-is s,
-      nutN-is s,
-      minN-plain s,
-      leaching-is s,
-      c .before .max-s-of .ensures .0,
-      at .stand-sums .ensures .nitrogen,
-      at .before .index8 .ensures,
-      c .before .before .before .before .before .before .wide16 .ensures .0,
-      c .before .before .before .leaching-of .ensures .0,
-      c .before .before .before .before .before .wide162 .ensures .0,
-      c .before .before .before .before .wide163 .ensures .0,
-      retained-site (c .before .before),
-    )
+    rw (c .with-nitrogen .ensures)
+    (loads-by (termsOf s) _ _ _ _ (c .before .max-s-of .ensures .0)
+    (rw (minN-plain s, at .stand-sums .ensures .nitrogen, at .before .index8 .ensures, c .before .before .before .before .before .before .wide16 .ensures .0))
+    (rw (leaching-is s, c .before .before .before .leaching-of .ensures .0, c .before .before .before .before .before .wide162 .ensures .0, c .before .before .before .before .wide163 .ensures .0))
+    (c .before .before .retained-at .ensures))
 
 pub loads-of-spec : {M : Type 1} → statement M
 loads-of-spec =
@@ -86,7 +71,7 @@ loads-of-spec =
     wide16-requires-2
     wide16-requires-3
     leaching-of-requires
-    retained-of-requires
+    retained-at-requires
     max-s-of-requires
     with-nitrogen-requires
     returns)

@@ -2,7 +2,7 @@
 use mathlib.Core.Path.{_≡_, sym, _∙_}
 use native.Mathlib.Omega.{arith}
 use Rattle.loads.specs.Weathering.{weathering, availableWeathering}
-use Rattle.loads.proofs.TermLaws.{weathering-is, available-is, maxS-plain, term-bounds}
+use Rattle.loads.proofs.SiteTermLaws.{weathering-is, available-is, maxS-plain, part-bounds}
 use borrow.Author.Needs.{needs}
 use Rattle.loads.proofs.critical.max_s_of.Statement.{statement}
 use Rattle.loads.proofs.critical.max_s_of.Tie as tie
@@ -22,7 +22,7 @@ wide8-requires c κs = search needs
 available-of-requires : tie.Need-available-of-requires
 available-of-requires c κs =
     let s = c .before .before in (
-      rw (weathered (c .before)) (term-bounds (s .args .s) (s .pre .0) .weathering-le),
+      rw (weathered (c .before)) (part-bounds (s .args .s) (s .pre .0) .weathering-le),
       rw (c .wide8 .ensures) (s .pre .0 .available),
     )
 
@@ -49,11 +49,11 @@ acid-load-requires c κs =
     record {
       deposition = rw (c .before .before .before .before .wide16 .ensures .0) (b .deposition);
       percolation = rw (c .before .before .before .wide162 .ensures .0) (b .percolation);
-      weathering = rw (weathered (at .before .before)) (term-bounds (s .args .s) b .weathering-le);
+      weathering = rw (weathered (at .before .before)) (part-bounds (s .args .s) b .weathering-le);
       part = at .available-of .ensures .1;
       limit =
           omega
-          (arith, c .before .before .before .before .wide16 .ensures .0, b .deposition, available at, term-bounds (s .args .s) b .available-le, c .before .before .wide163 .ensures .0, b .ratio);
+          (arith, c .before .before .before .before .wide16 .ensures .0, b .deposition, available at, part-bounds (s .args .s) b .available-le, c .before .before .wide163 .ensures .0, b .ratio);
       divisor = rw (c .before .before .wide163 .ensures .0) (omega (arith, b .ratio));
       gibbsite = rw (c .before .wide164 .ensures .0) (b .gibbsite);
       level = rw (c .wide165 .ensures .0) (b .ceiling);

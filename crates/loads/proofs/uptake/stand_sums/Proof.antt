@@ -4,13 +4,14 @@ use mathlib.Core.Path.{_≡_, sym}
 use native.Mathlib.Omega.{arith}
 use native.Mathlib.Numerals.{add-one}
 use Rattle.loads.proofs.UptakeLaws.{sum-none, sum-more}
+use Rattle.loads.specs.Most.{mostNitrogenWeight, mostBaseWeight}
 use Rattle.loads.specs.Uptake.{nitrogenIn, baseIn, standSum}
 use Rattle.loads.proofs.uptake.stand_sums.Statement.{statement}
 use Rattle.loads.proofs.uptake.stand_sums.Tie as tie
 
 abbrev Inv-loop : tie.InvT-loop
 Inv-loop entries stand nitrogen₀ base₀ i₀ nitrogen base i =
-    (i ≤ entries) × (nitrogen ≡ standSum nitrogenIn stand i) × (base ≡ standSum baseIn stand i) × (nitrogen ≤ 131070000000 * i) × (base ≤ 393210000000 * i)
+    (i ≤ entries) × (nitrogen ≡ standSum nitrogenIn stand i) × (base ≡ standSum baseIn stand i) × (nitrogen ≤ mostNitrogenWeight * i) × (base ≤ mostBaseWeight * i)
 
 abbrev μ-loop : tie.MeasureT-loop
 μ-loop entries stand nitrogen₀ base₀ i₀ nitrogen base i = entries - i

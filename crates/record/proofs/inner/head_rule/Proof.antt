@@ -1,7 +1,7 @@
 use mathlib.Core.Path.{sym}
 use borrow.Author.Needs.{needs}
 use borrow.Author.Tests.{lt-ltb, le-ltb, eq-eqb, ne-eqb}
-use Rattle.record.specs.Reader.{headRule}
+use Rattle.record.specs.Fields.{headRule}
 use Rattle.record.proofs.inner.head_rule.Statement.{statement}
 use Rattle.record.proofs.inner.head_rule.Tie as tie
 

@@ -7,14 +7,16 @@ use borrow.Author.Needs.{needs}
 use Rattle.site.specs.declared.Checked.the-variants.{Passed}
 use Rattle.site.specs.Values.{due}
 use Rattle.record.specs.Bytes.{statedLen}
-use Rattle.record.specs.Field.{blankSite}
-use Rattle.record.specs.Reader.{accepted, headRule, walk}
-use Rattle.record.proofs.WalkLaws.{HeadOk, head-passed, walk-head, walk-value, walk-next, walk-done, walk-more}
+use Rattle.field.specs.Field.{siteKind}
+use Rattle.record.specs.Fields.{headRule, walk, fieldsIn}
+use Rattle.record.specs.Reader.{accepted}
+use Rattle.record.proofs.ResultLaws.{read-good, read-fault}
+use Rattle.record.proofs.WalkLaws.{HeadOk, head-passed, walk-head, walk-done, walk-more, site-value, site-next}
 use Rattle.record.proofs.inner.read_fields.Statement.{statement}
 use Rattle.record.proofs.inner.read_fields.Tie as tie
 
 abbrev Inv-loop : tie.InvT-loop
-Inv-loop part base tags site₀ rest₀ at₀ k₀ site rest at k = (k ≤ 15) × (at + length rest ≡ base + length part) × (walk due blankSite part base ≡ walk (drop k due) site rest at)
+Inv-loop part base tags site₀ rest₀ at₀ k₀ site rest at k = (k ≤ 15) × (at + length rest ≡ base + length part) × (fieldsIn siteKind part base ≡ walk siteKind (drop k due) site rest at)
 
 abbrev μ-loop : tie.MeasureT-loop
 μ-loop part base tags site₀ rest₀ at₀ k₀ site rest at k = 15 - k
@@ -49,7 +51,7 @@ refused-requires c κs = search needs
 returns : tie.Need-returns Inv-loop μ-loop
 returns c =
     let h = c .before .before .before .before in
-    c .refused .ensures ∙ sym (h .before .before .loop .inv .2 ∙ walk-head due _ (h .before .loop-test .taken) _ _ _ _ (sym (h .head-rule .ensures) ∙ c .before .before .rule .given .1))
+    c .refused .ensures ∙ sym (read-fault (h .before .before .loop .inv .2 ∙ walk-head siteKind due _ (h .before .loop-test .taken) _ _ _ _ (sym (h .head-rule .ensures) ∙ c .before .before .rule .given .1)))
 
 enum-told : tie.Need-enum-told Inv-loop μ-loop
 enum-told c = search needs
@@ -84,8 +86,8 @@ returns-2 c =
     let e = f .before .before .before in
     let h = e .before .before in
     c .refused2 .ensures
-    ∙ sym (h .before .before .loop .inv .2
-    ∙ walk-value due _ (h .before .loop-test .taken) _ _ _ (head-is e) _ _ (end-is (f .before .before)) (f .take-field .ensures .0) _ (c .before .before .checked .given .1))
+    ∙ sym (read-fault (h .before .before .loop .inv .2
+    ∙ site-value due _ (h .before .loop-test .taken) _ _ _ (head-is e) _ _ (end-is (f .before .before)) (f .take-field .ensures .0) _ (c .before .before .checked .given .1)))
 
 enum-told-2 : tie.Need-enum-told-2 Inv-loop μ-loop
 enum-told-2 c = search needs
@@ -116,18 +118,18 @@ loop-again c =
       search needs,
       simp (length-take, length-drop) (omega (arith, ok e .inside)),
       h .before .before .loop .inv .2
-          ∙ walk-next due _ (h .before .loop-test .taken) _ _ _ (head-is e) _ _ (end-is (f .before .before)) (f .take-field .ensures .0) (c .before .before .enum-told2 .given .1),
+          ∙ site-next due _ (h .before .loop-test .taken) _ _ _ (head-is e) _ _ (end-is (f .before .before)) (f .take-field .ensures .0) (c .before .before .enum-told2 .given .1),
     )
 
 returns-3 : tie.Need-returns-3 Inv-loop μ-loop
 unfolding accepted
-returns-3 c = sym (c .before .before .loop .inv .2 ∙ walk-done _ _ _ _ (c .before .loop-test .left) (c .before .before .loop .inv .0) (c .if1 .taken))
+returns-3 c = sym (read-good (c .before .before .loop .inv .2 ∙ walk-done siteKind due _ _ _ _ (c .before .loop-test .left) (c .if1 .taken)))
 
 refused-requires-3 : tie.Need-refused-requires-3 Inv-loop μ-loop
 refused-requires-3 c κs = search needs
 
 returns-4 : tie.Need-returns-4 Inv-loop μ-loop
-returns-4 c = c .refused3 .ensures ∙ sym (c .before .before .before .loop .inv .2 ∙ walk-more _ _ _ _ (c .before .before .loop-test .left) (c .before .before .before .loop .inv .0) (c .before .if1 .left))
+returns-4 c = c .refused3 .ensures ∙ sym (read-fault (c .before .before .before .loop .inv .2 ∙ walk-more siteKind due _ _ _ _ (c .before .before .loop-test .left) (c .before .if1 .left)))
 
 pub read-fields-spec : {M : Type 1} → statement M
 read-fields-spec =

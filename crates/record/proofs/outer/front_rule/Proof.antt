@@ -1,7 +1,7 @@
 use mathlib.Core.Path.{sym}
 use borrow.Author.Needs.{needs}
 use borrow.Author.Tests.{lt-ltb, le-ltb, eq-eqb, ne-eqb}
-use Rattle.record.specs.Outer.{outerRule}
+use Rattle.record.specs.Records.{outerRule}
 use Rattle.record.proofs.outer.front_rule.Statement.{statement}
 use Rattle.record.proofs.outer.front_rule.Tie as tie
 

@@ -1,7 +1,5 @@
 use borrow.Author.Needs.{needs}
-use borrow.Author.Tests.{eq-eqb, ne-eqb}
-use Rattle.record.specs.Reader.{accepted}
-use Rattle.record.specs.Outer.{alone, onlyOne}
+use Rattle.record.proofs.OuterLaws.{only-whole, only-more, only-refused}
 use Rattle.record.proofs.outer.only_one.Statement.{statement}
 use Rattle.record.proofs.outer.only_one.Tie as tie
 
@@ -15,19 +13,16 @@ enum-told : tie.Need-enum-told
 enum-told c = search needs
 
 returns : tie.Need-returns
-unfolding onlyOne alone accepted
-returns c = rw (c .before .before .enum-told .given .1, eq-eqb _ _ (c .if1 .taken))
+returns c = only-whole _ (c .before .before .enum-told .given .1) (c .if1 .taken)
 
 refused-requires-2 : tie.Need-refused-requires-2
 refused-requires-2 c κs = search needs
 
 returns-2 : tie.Need-returns-2
-unfolding onlyOne alone
-returns-2 c = rw (c .before .before .outcome .given .1) (c .refused .ensures)
+returns-2 c = only-refused _ (c .before .before .outcome .given .1) (c .refused .ensures)
 
 returns-3 : tie.Need-returns-3
-unfolding onlyOne alone
-returns-3 c = rw (c .before .before .before .enum-told .given .1, ne-eqb _ _ (c .before .if1 .left)) (c .refused2 .ensures)
+returns-3 c = only-more _ (c .before .before .before .enum-told .given .1) (c .before .if1 .left) (c .refused2 .ensures)
 
 pub only-one-spec : {M : Type 1} → statement M
 only-one-spec =

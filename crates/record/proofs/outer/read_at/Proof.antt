@@ -6,13 +6,16 @@ use denote.Ref.{now}
 use borrow.Author.Needs.{needs}
 use Rattle.site.specs.declared.Checked.the-variants.{Passed}
 use Rattle.record.specs.Bytes.{statedLen}
-use Rattle.record.specs.Outer.{outerRule}
+use Rattle.record.specs.Outer.{siteTag}
+use Rattle.record.specs.Records.{outerRule}
+use Rattle.field.specs.Clean.{Bytes}
 use Rattle.record.proofs.WalkLaws.{rest-all}
-use Rattle.record.proofs.OuterLaws.{outer-inside, record-broken, record-walked, found-numbers}
+use Rattle.record.proofs.OuterLaws.{outer-inside, record-broken, record-walked}
+use Rattle.record.proofs.Place.{found-answers}
 use Rattle.record.proofs.outer.read_at.Statement.{statement}
 use Rattle.record.proofs.outer.read_at.Tie as tie
 
-passed : (c : tie.After-enum-told) → outerRule (drop (c .before .before .before .before .args .at) (now (c .before .before .before .before .args .file))) ≡ Passed
+passed : (c : tie.After-enum-told) → outerRule siteTag (drop (c .before .before .before .before .args .at) (now (c .before .before .before .before .args .file))) ≡ Passed
 passed c = sym (c .before .before .outer-rule .ensures) ∙ c .enum-told .given .1
 
 front-inside : (c : tie.After-enum-told) → let a = c .before .before .before .before .args in
@@ -22,6 +25,9 @@ front-inside c = outer-inside _ _ (passed c)
 stated : (c : tie.After-stated-len)
     → c .stated-len .result ≡ statedLen (drop (c .before .before .before .before .before .before .args .at) (now (c .before .before .before .before .before .before .args .file)))
 stated c = rw rest-all at (c .stated-len .ensures .0)
+
+bytes : (c : tie.After-shared-slice-known) → Bytes (now (c .before .args .file))
+bytes c i = omega (arith, c .shared-slice-known .given i)
 
 outer-rule-requires : tie.Need-outer-rule-requires
 outer-rule-requires c κs = search needs
@@ -36,7 +42,7 @@ found-from-requires : tie.Need-found-from-requires
 found-from-requires c κs = search needs
 
 returns : tie.Need-returns
-returns c = found-numbers _ _ (record-broken _ _ _ _ _ (sym (c .before .before .before .before .before .outer-rule .ensures) ∙ c .before .before .before .rule .given .1) _ (c .before .refused .ensures) (c .found-from .ensures))
+returns c = found-answers _ _ _ (bytes (c .before .before .before .before .before .before)) (record-broken _ _ _ _ _ (sym (c .before .before .before .before .before .outer-rule .ensures) ∙ c .before .before .before .rule .given .1) _ (c .before .refused .ensures) (c .found-from .ensures))
 
 enum-told : tie.Need-enum-told
 enum-told c = search needs
@@ -75,7 +81,7 @@ found-from-requires-2 : tie.Need-found-from-requires-2
 found-from-requires-2 c κs = search needs
 
 returns-2 : tie.Need-returns-2
-returns-2 c = found-numbers _ _ (record-walked _ _ _ _ (passed (c .before .before .before .before .before)) _ (stated (c .before .before .before)) (c .before .read-fields .ensures) (c .found-from2 .ensures))
+returns-2 c = found-answers _ _ _ (bytes (c .before .before .before .before .before .before .before .before)) (record-walked _ _ _ _ (passed (c .before .before .before .before .before)) _ (stated (c .before .before .before)) (c .before .read-fields .ensures) (c .found-from2 .ensures))
 
 pub read-at-spec : {M : Type 1} → statement M
 read-at-spec =

@@ -1,7 +1,12 @@
+use Prim.Native.Nat.{_+_, _≤_}
+use mathlib.Core.Path.{_≡_}
 use native.Mathlib.Omega.{arith}
+use lib.ListN.{length}
+use denote.Ref.{now}
 use borrow.Author.Needs.{needs}
+use Rattle.field.specs.Field.{value}
 use Rattle.record.specs.Bytes.{fieldOf}
-use Rattle.record.proofs.PutLaws.{field-put}
+use Rattle.record.proofs.EncodeLaws.{field-wrote}
 use Rattle.record.proofs.put.put_field.Statement.{statement}
 use Rattle.record.proofs.put.put_field.Tie as tie
 
@@ -12,20 +17,17 @@ put-head-requires : tie.Need-put-head-requires
 unfolding fieldOf
 put-head-requires c κs = (omega arith, omega arith)
 
-add-copy-in : tie.Need-add-copy-in
-add-copy-in c = search needs
+array-share-prefix-bytes : tie.Need-array-share-prefix-bytes
+array-share-prefix-bytes c =
+    let v = c .before .before .before .before .before .before .value-of in
+    let e : length (v .result .bytes) ≡ 16 = search needs in
+    omega (arith, v .ensures .small)
 
-copy-in-requires : tie.Need-copy-in-requires
-unfolding fieldOf
-copy-in-requires c κs =
-    let v = c .before .before .before .before .before .before .value-of .ensures in
-    (omega (arith, v .long, c .before .before .before .put-head .kept .0), v .small)
+slice-aggregate-put-bytes : tie.Need-slice-aggregate-put-bytes
+slice-aggregate-put-bytes c = let v = c .before .before .before .before .before .before .before .value-of in rw (v .ensures .first) (v .ensures .long)
 
-add-result : tie.Need-add-result
-add-result c = search needs
-
-add-result-2 : tie.Need-add-result-2
-add-result-2 c = search needs
+put-bytes-requires : tie.Need-put-bytes-requires
+put-bytes-requires c κs = search needs
 
 same-length : tie.Need-same-length
 same-length c = search needs
@@ -33,8 +35,11 @@ same-length c = search needs
 returns : tie.Need-returns
 unfolding fieldOf
 returns c =
-    let v = c .before .before .before .before .before .before .before .before .before .value-of .ensures in
-    (field-put _ _ _ _ _ _ _ _ (v .long) (v .first) (c .before .before .before .before .before .before .put-head .ensures) (c .before .before .copy-in .ensures) (c .before .before .before .before .before .before .before .before .before .before .before .pre .1), omega (arith, v .long))
+    let s = c .before .before .before .before .before .before .before .before .before .before .before .before in
+    let v = c .before .before .before .before .before .before .before .before .before .before .value-of in
+    let h = c .before .before .before .before .before .before .before .put-head in
+    field-wrote (s .args .tag) (value (s .args .tag) (s .args .site)) (v .ensures .long) (h .ensures)
+    (rw (v .ensures .first) at (c .before .before .put-bytes .ensures .fits (rw (v .ensures .first) (omega (arith, s .pre, v .ensures .long, h .ensures .next, h .kept .0)))))
 
 pub put-field-spec : {M : Type 1} → statement M
 put-field-spec =
@@ -42,9 +47,8 @@ put-field-spec =
     (tie.spec
     value-of-requires
     put-head-requires
-    add-copy-in
-    copy-in-requires
-    add-result
-    add-result-2
+    array-share-prefix-bytes
+    slice-aggregate-put-bytes
+    put-bytes-requires
     same-length
     returns)

@@ -1,7 +1,8 @@
 use native.Mathlib.Omega.{arith}
 use lib.ListN.{length-set}
+use denote.Ref.{now}
 use borrow.Author.Needs.{needs}
-use Rattle.record.proofs.PutLaws.{put-three}
+use Rattle.output.proofs.WriteLaws.{stored, and-stored, ending}
 use Rattle.record.proofs.put.put_head.Statement.{statement}
 use Rattle.record.proofs.put.put_head.Tie as tie
 
@@ -26,11 +27,14 @@ add-buf-2 c = search needs
 slice-write-buf-3 : tie.Need-slice-write-buf-3
 slice-write-buf-3 c = simp length-set (omega arith)
 
+add-result : tie.Need-add-result
+add-result c = search needs
+
 same-length : tie.Need-same-length
 same-length c = search needs
 
 returns : tie.Need-returns
-returns c = put-three _ _ _ _ _ (c .pre .0)
+returns c = ending (and-stored (and-stored (stored _ _ _) _ _ (omega arith)) _ _ (omega arith)) _ (omega arith)
 
 pub put-head-spec : {M : Type 1} → statement M
 put-head-spec =
@@ -43,5 +47,6 @@ put-head-spec =
     cast-buf-2
     add-buf-2
     slice-write-buf-3
+    add-result
     same-length
     returns)

@@ -6,9 +6,9 @@ use borrow.Author.Needs.{needs}
 use Rattle.site.specs.declared.Checked.the-variants.{Passed}
 use Rattle.site.specs.Check.{siteRule}
 use Rattle.record.specs.Writer.{encode}
-use Rattle.record.proofs.ValueLaws.{unmapped}
+use Rattle.field.proofs.ValueLaws.{unmapped}
 use Rattle.record.proofs.EncodeLaws.{record-length}
-use Rattle.record.specs.RoundTrip.{Sized}
+use Rattle.field.specs.Clean.{Sized}
 use Rattle.record.proofs.WriteLaws.{write-broken, write-short, write-whole}
 use Rattle.record.proofs.writer.write_record.Statement.{statement}
 use Rattle.record.proofs.writer.write_record.Tie as tie
@@ -45,16 +45,14 @@ returns-2 : tie.Need-returns-2
 returns-2 c = write-short _ (sized (c .before .before .before .before .before .before)) _ (passed (c .before .before)) (omega (arith, long (c .before)))
 
 put-record-requires : tie.Need-put-record-requires
-put-record-requires c κs = (passed (c .before .before .before), long (c .before .before), omega arith, search needs)
-
-add-t6 : tie.Need-add-t6
-add-t6 c = search needs
+put-record-requires c κs = (long (c .before .before), omega arith, omega (arith, long (c .before .before)))
 
 same-length : tie.Need-same-length
 same-length c = search needs
 
 returns-3 : tie.Need-returns-3
-returns-3 c = write-whole _ (sized (c .before .before .before .before .before .before .before .before .before .before)) _ (passed (c .before .before .before .before .before .before)) _ (long (c .before .before .before .before .before)) (omega arith) _ (c .before .before .put-record .ensures)
+returns-3 c =
+    write-whole _ (sized (c .before .before .before .before .before .before .before .before .before .before)) _ (passed (c .before .before .before .before .before .before)) (omega (arith, long (c .before .before .before .before .before))) (c .before .before .put-record .ensures)
 
 pub write-record-spec : {M : Type 1} → statement M
 write-record-spec =
@@ -68,6 +66,5 @@ write-record-spec =
     add-if1
     returns-2
     put-record-requires
-    add-t6
     same-length
     returns-3)

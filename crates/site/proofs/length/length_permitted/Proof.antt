@@ -5,7 +5,6 @@ use native.Mathlib.Omega.{arith}
 use lib.Dec.{eqb}
 use lib.ListN.{getD}
 use borrow.Author.Needs.{needs}
-use Rattle.site.specs.Field.{taken}
 use Rattle.site.specs.Values.{itemWidths, lengthPermitted}
 use Rattle.site.proofs.LengthLaws.{width-positive, width-at-most, items-at-most, permitted-past, permitted-none, permitted-more, permitted-items}
 use Rattle.site.proofs.length.length_permitted.Statement.{statement}

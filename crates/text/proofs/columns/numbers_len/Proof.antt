@@ -4,9 +4,9 @@ use native.Mathlib.Omega.{arith}
 use borrow.Author.Needs.{needs}
 use lib.ListN.{length, take}
 use lib.Seq.{take-all}
-use Rattle.text.specs.Writing.{each}
+use Rattle.output.specs.Writing.{each}
 use Rattle.text.specs.Line.{column, spaced}
-use Rattle.text.proofs.EachLaws.{length-more}
+use Rattle.output.proofs.EachLaws.{length-more}
 use Rattle.text.proofs.columns.numbers_len.Statement.{statement}
 use Rattle.text.proofs.columns.numbers_len.Tie as tie
 

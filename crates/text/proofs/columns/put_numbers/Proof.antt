@@ -5,10 +5,10 @@ use native.Mathlib.Omega.{arith}
 use borrow.Author.Needs.{needs}
 use lib.ListN.{length, getD, take}
 use lib.Seq.{take-all}
-use Rattle.text.specs.Writing.{Wrote, each}
+use Rattle.output.specs.Writing.{Wrote, each}
 use Rattle.text.specs.Line.{column}
-use Rattle.text.proofs.WriteLaws.{nothing, then, room, kept}
-use Rattle.text.proofs.EachLaws.{each-more, each-fits}
+use Rattle.output.proofs.WriteLaws.{nothing, then, room, kept}
+use Rattle.output.proofs.EachLaws.{each-more, each-fits}
 use Rattle.text.proofs.columns.put_numbers.Statement.{statement}
 use Rattle.text.proofs.columns.put_numbers.Tie as tie
 

@@ -3,7 +3,7 @@ use mathlib.Core.Path.{ap}
 use lib.ListN.{length}
 use mathlib.Core.List.{List}
 use Prim.Native.Nat.{ℕ}
-use Rattle.text.specs.Writing.{each}
+use Rattle.output.specs.Writing.{each}
 use Rattle.text.specs.Line.{column}
 use Rattle.text.proofs.LineLaws.{length-line}
 use borrow.Author.Needs.{needs}

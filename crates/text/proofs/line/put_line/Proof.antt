@@ -4,11 +4,12 @@ use Prim.Native.Nat.{ℕ, _+_, _≤_}
 use mathlib.Core.Path.{_≡_, ap}
 use mathlib.Core.List.{List}
 use native.Mathlib.Omega.{arith}
+use denote.Ref.{now}
 use lib.ListN.{length, length-set}
-use Rattle.text.specs.Writing.{each}
+use Rattle.output.specs.Writing.{Wrote, each}
 use Rattle.judgement.specs.Verdicts.{verdictWord}
-use Rattle.text.specs.Line.{spaced, column, body, line}
-use Rattle.text.proofs.WriteLaws.{then, stored}
+use Rattle.text.specs.Line.{nameText, spaced, column, body, line}
+use Rattle.output.proofs.WriteLaws.{then, stored}
 use Rattle.text.proofs.LineLaws.{length-line}
 use Rattle.text.proofs.line.put_line.Statement.{statement}
 use Rattle.text.proofs.line.put_line.Tie as tie
@@ -39,22 +40,29 @@ slice-aggregate-put-bytes : tie.Need-slice-aggregate-put-bytes
 slice-aggregate-put-bytes c = rw (c .before .before .before .before .name-len .ensures .1) (c .before .before .before .before .name-len .ensures .2)
 
 put-bytes-requires : tie.Need-put-bytes-requires
-put-bytes-requires c κs = rw (c .before .before .before .before .name-len .ensures .1) (omega (arith, room c))
+put-bytes-requires c κs = search needs
+
+-- the name stands in front
+name-wrote : (c : tie.After-put-bytes)
+    → Wrote (now (s0 (c .before) .args .out)) (s0 (c .before) .args .at) (nameText (s0 (c .before) .args .row)) (c .put-bytes .last .0) (c .put-bytes .result)
+name-wrote c =
+    let n = c .before .before .before .before .before .name-len .ensures in
+    rw (n .1) at (c .put-bytes .ensures .fits (rw (n .1) (omega (arith, room (c .before), n .2))))
 
 put-numbers-requires : tie.Need-put-numbers-requires
-put-numbers-requires c κs = omega (arith, room (c .before .before .before .before), slice-aggregate-put-bytes (c .before .before .before .before))
+put-numbers-requires c κs = omega (arith, room (c .before .before .before .before), slice-aggregate-put-bytes (c .before .before .before .before), name-wrote (c .before .before .before) .next)
 
 put-mark-requires : tie.Need-put-mark-requires
 unfolding spaced
-put-mark-requires c κs = let b = (c .before .before .before .before .before .before .before .before) in omega (arith, room b, slice-aggregate-put-bytes b)
+put-mark-requires c κs = let b = (c .before .before .before .before .before .before .before .before) in omega (arith, room b, slice-aggregate-put-bytes b, name-wrote (c .before .before .before .before .before .before .before) .next)
 
 slice-write-out : tie.Need-slice-write-out
 unfolding spaced
-slice-write-out c = let b = (c .before .before .before .before .before .before .before .before .before .before .before) in omega (arith, room b, slice-aggregate-put-bytes b)
+slice-write-out c = let b = (c .before .before .before .before .before .before .before .before .before .before .before) in omega (arith, room b, slice-aggregate-put-bytes b, name-wrote (c .before .before .before .before .before .before .before .before .before .before) .next)
 
 add-result : tie.Need-add-result
 unfolding spaced
-add-result c = let b = (c .before .before .before .before .before .before .before .before .before .before .before) in omega (arith, room b, slice-aggregate-put-bytes b, s0 b .good)
+add-result c = let b = (c .before .before .before .before .before .before .before .before .before .before .before) in omega (arith, room b, slice-aggregate-put-bytes b, name-wrote (c .before .before .before .before .before .before .before .before .before .before) .next, s0 b .good)
 
 same-length : tie.Need-same-length
 same-length c = simp length-set (omega arith)
@@ -65,9 +73,8 @@ returns c =
     let m = c .before .before in
     let n = m .before .before .before .before in
     let b = n .before .before .before .before in
-    let w = rw (b .before .before .before .before .before .name-len .ensures .1) at (b .put-bytes .ensures) in
     let v = rw (b .before .before .before .before .numbers .ensures) at (n .put-numbers .ensures) in
-    then (then (then w v) (m .put-mark .ensures)) (stored (m .put-mark .last .0) (m .put-mark .result) 10)
+    then (then (then (name-wrote b) v) (m .put-mark .ensures)) (stored (m .put-mark .last .0) (m .put-mark .result) 10)
 
 pub put-line-spec : {M : Type 1} → statement M
 put-line-spec =

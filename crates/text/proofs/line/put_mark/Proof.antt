@@ -11,8 +11,7 @@ slice-aggregate-put-bytes : tie.Need-slice-aggregate-put-bytes
 slice-aggregate-put-bytes c = search needs
 
 put-bytes-requires : tie.Need-put-bytes-requires
-unfolding spaced verdictWord
-put-bytes-requires c κs = rw (c .before .before .enum-told .given .1) at (c .before .before .before .before .before .pre)
+put-bytes-requires c κs = search needs
 
 enum-told-2 : tie.Need-enum-told-2
 enum-told-2 c = search needs
@@ -21,22 +20,25 @@ slice-aggregate-put-bytes-2 : tie.Need-slice-aggregate-put-bytes-2
 slice-aggregate-put-bytes-2 c = search needs
 
 put-bytes-requires-2 : tie.Need-put-bytes-requires-2
-unfolding spaced verdictWord
-put-bytes-requires-2 c κs = rw (c .before .before .enum-told2 .given .1) at (c .before .before .before .before .before .pre)
+put-bytes-requires-2 c κs = search needs
 
 same-length : tie.Need-same-length
 same-length c = search needs
 
 returns : tie.Need-returns
 unfolding spaced verdictWord
-returns c = rw (c .before .before .before .before .before .enum-told .given .1) (c .before .before .put-bytes .ensures)
+returns c =
+    let e = c .before .before .before .before .before .enum-told .given .1 in
+    rw e (c .before .before .put-bytes .ensures .fits (rw e at (c .before .before .before .before .before .before .before .before .pre)))
 
 same-length-2 : tie.Need-same-length-2
 same-length-2 c = search needs
 
 returns-2 : tie.Need-returns-2
 unfolding spaced verdictWord
-returns-2 c = rw (c .before .before .before .before .before .enum-told2 .given .1) (c .before .before .put-bytes2 .ensures)
+returns-2 c =
+    let e = c .before .before .before .before .before .enum-told2 .given .1 in
+    rw e (c .before .before .put-bytes2 .ensures .fits (rw e at (c .before .before .before .before .before .before .before .before .pre)))
 
 pub put-mark-spec : {M : Type 1} → statement M
 put-mark-spec =

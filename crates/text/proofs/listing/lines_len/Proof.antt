@@ -3,14 +3,15 @@ use mathlib.Core.Path.{_≡_}
 use native.Mathlib.Omega.{arith}
 use borrow.Author.Needs.{needs}
 use lib.ListN.{length, take}
+use Rattle.text.specs.Most.{mostLine}
 use Rattle.text.specs.Line.{noRow, line}
-use Rattle.text.specs.Writing.{each}
-use Rattle.text.proofs.EachLaws.{length-more}
+use Rattle.output.specs.Writing.{each}
+use Rattle.output.proofs.EachLaws.{length-more}
 use Rattle.text.proofs.listing.lines_len.Statement.{statement}
 use Rattle.text.proofs.listing.lines_len.Tie as tie
 
 abbrev Inv-loop : tie.InvT-loop
-Inv-loop count rows n₀ i₀ n i = (i ≤ count) × (n ≡ length (each line (take i rows))) × (n ≤ 163 * i)
+Inv-loop count rows n₀ i₀ n i = (i ≤ count) × (n ≡ length (each line (take i rows))) × (n ≤ mostLine * i)
 
 abbrev μ-loop : tie.MeasureT-loop
 μ-loop count rows n₀ i₀ n i = count - i

@@ -4,10 +4,10 @@ use mathlib.Core.Path.{_≡_, refl}
 use native.Mathlib.Omega.{arith}
 use lib.ListN.{length, getD, take}
 use borrow.Author.Needs.{needs}
-use Rattle.text.specs.Writing.{Wrote, each}
+use Rattle.output.specs.Writing.{Wrote, each}
 use Rattle.text.specs.Line.{noRow, line}
-use Rattle.text.proofs.WriteLaws.{nothing, then, room, kept}
-use Rattle.text.proofs.EachLaws.{each-more, each-room}
+use Rattle.output.proofs.WriteLaws.{nothing, then, room, kept}
+use Rattle.output.proofs.EachLaws.{each-more, each-room}
 use Rattle.text.proofs.listing.put_lines.Statement.{statement}
 use Rattle.text.proofs.listing.put_lines.Tie as tie
 

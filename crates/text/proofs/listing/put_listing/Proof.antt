@@ -7,10 +7,10 @@ use lib.ListN.{length, take}
 use mathlib.Core.List.{List}
 use Rattle.text.specs.declared.Row.{Row}
 use lib.Seq.{take-all}
-use Rattle.text.specs.Writing.{Wrote, each}
+use Rattle.output.specs.Writing.{Wrote, each}
 use Rattle.text.specs.Line.{line}
 use Rattle.text.specs.Listing.{headText, header, listing}
-use Rattle.text.proofs.WriteLaws.{then, room}
+use Rattle.output.proofs.WriteLaws.{then, room}
 use Rattle.text.proofs.MarkLaws.{and-marked}
 use Rattle.text.proofs.LineLaws.{length-listing}
 use Rattle.text.proofs.AnswerLaws.{refused, printed}
@@ -49,7 +49,7 @@ put-lines-requires : tie.Need-put-lines-requires
 put-lines-requires c κs =
     let j = c .before .before .before .before .before .before .before .before in
     let s = j .before .before in
-    (used j .0, room (each line (take (j .if1 .n) (s .args .rows))) (c .before .before .before .put-bytes .ensures) (omega arith))
+    (used j .0, room (each line (take (j .if1 .n) (s .args .rows))) (c .before .before .before .put-bytes .ensures .fits (omega arith)) (omega arith))
 
 same-length : tie.Need-same-length
 same-length c = search needs
@@ -62,7 +62,7 @@ returns-2 c =
     let rows = take (s .args .count) (s .args .rows) in
     let e = ap (λ (rs : List Row). length (each line rs)) (used j .1) in
     let w : Wrote (now (s .args .out)) 0 (listing rows) (c .before .before .put-lines .last .0) (c .before .before .put-lines .result) =
-    rw (used j .1) at (then (c .before .before .before .before .before .before .put-bytes .ensures) (c .before .before .put-lines .ensures)) in
+    rw (used j .1) at (then (c .before .before .before .before .before .before .put-bytes .ensures .fits (omega arith)) (c .before .before .put-lines .ensures)) in
     and-marked rows (now (s .args .out)) (printed (listing rows) w (omega (arith, length-listing rows)))
 
 pub put-listing-spec : {M : Type 1} → statement M

@@ -1,8 +1,10 @@
+use Prim.Native.Nat.{_+_, _≤_}
+use mathlib.Core.Path.{_≡_}
 use native.Mathlib.Omega.{arith}
 use denote.Ref.{now}
-use lib.ListN.{length-set}
+use lib.ListN.{length, length-set}
 use Rattle.text.specs.Refusal.{numbered, refusedWord, atWord}
-use Rattle.text.proofs.WriteLaws.{then, stored}
+use Rattle.output.proofs.WriteLaws.{then, stored}
 use Rattle.text.proofs.LineLaws.{length-refusal, refusal-is}
 use Rattle.text.proofs.AnswerLaws.{refused, printed}
 use borrow.Author.Needs.{needs}
@@ -37,8 +39,12 @@ slice-aggregate-put-bytes c = search needs
 put-bytes-requires : tie.Need-put-bytes-requires
 put-bytes-requires c κs = search needs
 
+-- there was room for `refused `, and for ` at `
+first : (c : tie.After-put-bytes) → c .put-bytes .result ≡ 8
+first c = c .put-bytes .ensures .fits (omega arith) .next
+
 put-decimal-requires : tie.Need-put-decimal-requires
-put-decimal-requires c κs = search needs
+put-decimal-requires c κs = omega (arith, first (c .before .before .before))
 
 slice-aggregate-put-bytes-2 : tie.Need-slice-aggregate-put-bytes-2
 slice-aggregate-put-bytes-2 c = search needs
@@ -46,14 +52,20 @@ slice-aggregate-put-bytes-2 c = search needs
 put-bytes-requires-2 : tie.Need-put-bytes-requires-2
 put-bytes-requires-2 c κs = search needs
 
+room : (c : tie.After-put-bytes2) → c .before .before .before .before .before .put-decimal .result + 4 ≤ length (c .before .before .before .before .before .put-decimal .last .0)
+room c = omega (arith, first (c .before .before .before .before .before .before .before .before .before))
+
+second : (c : tie.After-put-bytes2) → c .put-bytes2 .result ≡ c .before .before .before .before .before .put-decimal .result + 4
+second c = c .put-bytes2 .ensures .fits (room c) .next
+
 put-decimal-requires-2 : tie.Need-put-decimal-requires-2
-put-decimal-requires-2 c κs = search needs
+put-decimal-requires-2 c κs = omega (arith, first (c .before .before .before .before .before .before .before .before .before .before .before .before), second (c .before .before .before))
 
 slice-write-out : tie.Need-slice-write-out
-slice-write-out c = search needs
+slice-write-out c = omega (arith, first (c .before .before .before .before .before .before .before .before .before .before .before .before .before .before .before), second (c .before .before .before .before .before .before))
 
 add-t16 : tie.Need-add-t16
-add-t16 c = search needs
+add-t16 c = omega (arith, first (c .before .before .before .before .before .before .before .before .before .before .before .before .before .before .before), second (c .before .before .before .before .before .before))
 
 same-length : tie.Need-same-length
 same-length c = simp length-set (omega arith)
@@ -70,7 +82,7 @@ returns-2 c =
     let text = numbered (n .rule-number .result) (s .args .at) in
     rw (← refusal-is (s .args .rule) (s .args .at) (n .rule-number .ensures))
     (printed text
-    (then (then (then (then (b1 .put-bytes .ensures) (d2 .put-decimal .ensures)) (b3 .put-bytes2 .ensures)) (d4 .put-decimal2 .ensures))
+    (then (then (then (then (b1 .put-bytes .ensures .fits (omega arith)) (d2 .put-decimal .ensures)) (b3 .put-bytes2 .ensures .fits (room b3))) (d4 .put-decimal2 .ensures))
     (stored (d4 .put-decimal2 .last .0) (d4 .put-decimal2 .result) 10))
     (omega (arith, b1 .before .before .before, length-refusal (n .rule-number .result) (s .args .at))))
 

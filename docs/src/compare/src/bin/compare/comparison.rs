@@ -138,6 +138,23 @@ impl Comparison {
         self.tally.printed(Source::Program, expected);
     }
 
+    /// What the program printed, and whether it ended by itself.
+    pub fn expect(&mut self, name: &str, printed: &[u8], expected: &[u8], ended: bool) {
+        if printed == expected && ended {
+            self.passed += 1;
+        } else {
+            self.mismatch(|| {
+                println!("program, {name}");
+                println!(
+                    "program    {:?}{}",
+                    String::from_utf8_lossy(printed),
+                    if ended { "" } else { ", killed" }
+                );
+                println!("expected   {:?}", String::from_utf8_lossy(expected));
+            });
+        }
+    }
+
     /// Only the first mismatch is shown.
     fn mismatch(&mut self, show: impl FnOnce()) {
         if self.failed == 0 {

@@ -1,6 +1,7 @@
 //! Compares the static library and the program with the independent implementation, byte for byte.
 
 mod comparison;
+mod edges;
 mod tally;
 
 use compare::random::Random;
@@ -77,6 +78,7 @@ fn main() -> ExitCode {
             comparison.program(&mut random, path, &file, false);
             comparison.program(&mut random, path, &file, true);
         }
+        edges::compare(&mut comparison, path);
         println!("{runs} files through the program");
     }
 

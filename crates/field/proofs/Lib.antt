@@ -1,0 +1,7 @@
+pub mod All
+pub mod TakenLaws
+pub mod TableLaws
+pub mod EntryLaws
+pub mod ValueLaws
+pub mod KindLaws
+pub mod TagLaws

@@ -1,0 +1,41 @@
+-- What the call answers for a site: its loads and the verdict on its own pair, or the rule that it breaks.
+use Prim.Native.Nat.{ℕ}
+use mathlib.Core.List.{List, [], _∷_, _++_}
+use Rattle.site.specs.declared.Site.{Site}
+use Rattle.site.specs.declared.Checked.{Checked}
+use Rattle.site.specs.declared.Checked.the-variants.{Passed, Broken}
+use Rattle.site.specs.Refusal.{ruleNumber}
+use Rattle.site.specs.Check.{siteRule}
+use Rattle.loads.specs.Terms.{Terms}
+use Rattle.loads.specs.SiteTerms.{termsOf}
+use Rattle.loads.specs.CriticalLoads.{maxS, minN, maxN, nutN, loadsOf}
+use Rattle.judgement.specs.declared.Judged.{Judged}
+use Rattle.judgement.specs.declared.JudgementAnswer.{JudgementAnswer}
+use Rattle.judgement.specs.declared.JudgementAnswer.the-variants.{Given, Refused}
+use Rattle.judgement.specs.Regions.{regionNumber}
+use Rattle.judgement.specs.Verdicts.{region, acidExceedance, nutrientExceedance, verdict, verdictNumbers, verdictWord}
+
+-- the judgement of the site's own pair
+unfoldable pub judgedOf : Site → Judged
+judgedOf s = record { loads = loadsOf (termsOf s); verdict = verdict (termsOf s) (s .sulphur) (s .nitrogen) }
+
+unfoldable pub judgementIf : Checked → Judged → JudgementAnswer
+judgementIf Passed j = Given j
+judgementIf (Broken r) j = Refused r
+
+unfoldable pub judgementAnswer : Site → JudgementAnswer
+judgementAnswer s = judgementIf (siteRule s) (judgedOf s)
+
+-- the values of each case: the loads, region and exceedances, and the word's bytes; or the refusal's number and offset
+unfoldable pub judgedValues : Judged → List ℕ
+judgedValues j =
+    (j .loads .«max_s» ∷ j .loads .«min_n» ∷ j .loads .«max_n» ∷ j .loads .«nut_n» ∷ verdictNumbers (j .verdict)) ++ verdictWord (j .verdict)
+
+unfoldable pub judgementValues : JudgementAnswer → List ℕ
+judgementValues (Given j) = judgedValues j
+judgementValues (Refused r) = ruleNumber r ∷ 0 ∷ []
+
+-- what these values are for a pair: the four loads, its region and both exceedances, and the word's bytes
+unfoldable pub pairValues : Terms → (S N : ℕ) → List ℕ
+pairValues t S N =
+    maxS t ∷ minN t ∷ maxN t ∷ nutN t ∷ regionNumber (region t S N) ∷ acidExceedance t S N ∷ nutrientExceedance t N ∷ verdictWord (verdict t S N)

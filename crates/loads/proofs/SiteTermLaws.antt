@@ -1,0 +1,123 @@
+-- The terms of a site by its values, and their bounds where the site passes the check.
+use Prim.Native.Nat.{ℕ, _+_, _*_, _-_, _/_, _≤_, min}
+use mathlib.Core.Bool.{Bool, true, false}
+use mathlib.Core.Path.{_≡_, refl}
+use native.Mathlib.Omega.{arith}
+use native.Mathlib.Nat.{mul-le-mul}
+use lib.Dec.{eqb}
+use Rattle.site.specs.Choice.{pick}
+use Rattle.site.specs.Bounds.{Bounds}
+use Rattle.site.specs.declared.Site.{Site}
+use Rattle.loads.specs.Rounding.{up}
+use Rattle.loads.specs.Most.{mostWeathering, mostAvailable, mostA}
+use Rattle.loads.specs.Texture.{textureOf}
+use Rattle.loads.specs.Weathering.{classOf, weatheringOf, weathering, availableWeathering}
+use Rattle.loads.specs.Uptake.{baseIn, nitrogenIn, standSum, nitrogenUptake, baseDemand, baseUptakeOf, baseUptake}
+use Rattle.loads.specs.Supply.{baseSupply, aluminiumLimit}
+use Rattle.loads.specs.Hydrogen.{hydrogen, aluminium, greatestLevel, criticalLeaching}
+use Rattle.loads.specs.Nitrogen.{retained, retainedOf, leaching}
+use Rattle.loads.specs.Terms.{TermBounds}
+use Rattle.loads.specs.SiteTerms.{termsOf}
+use Rattle.loads.specs.CriticalLoads.{maxS, minN}
+use Rattle.loads.specs.Conditions.{acidLoad}
+use Rattle.loads.proofs.Numbers.{prod, part-le, quotient-le}
+use Rattle.loads.proofs.Tables.{class-le, retained-le, retained-pos}
+use Rattle.loads.proofs.TextureLaws.{texture-between}
+
+pub pick-le : {x y k : ℕ} (b : Bool) → x ≤ k → y ≤ k → pick b x y ≤ k
+pick-le true h i = h
+pick-le false h i = i
+
+module _ (s : Site) where
+  pub weathering-is : weathering s ≡ weatheringOf (s .parent) (s .clay) (s .sand) (s .depth)
+  unfolding weathering
+  weathering-is = refl
+
+  pub available-is : availableWeathering s ≡ weathering s * (s .available) / 100
+  unfolding availableWeathering
+  available-is = refl
+
+  pub demand-is : baseDemand s ≡ (standSum baseIn (s .stand) (s .entries) + 9999999) / 10000000
+  unfolding baseDemand up
+  demand-is = refl
+
+  pub baseUptake-is : baseUptake s ≡ min (baseDemand s) ((s .«base_deposition») + availableWeathering s - up (s .percolation) 10)
+  unfolding baseUptake baseUptakeOf
+  baseUptake-is = refl
+
+  pub supply-is : termsOf s .supply ≡ (s .«base_deposition») + weathering s - baseUptake s
+  unfolding termsOf baseSupply
+  supply-is = refl
+
+  pub limit-is : termsOf s .A ≡ 1500 * ((s .«base_deposition») + availableWeathering s - baseUptake s) / (s .ratio)
+  unfolding termsOf aluminiumLimit
+  limit-is = refl
+
+  pub retained-is : termsOf s .e ≡ retainedOf (s .drainage)
+  unfolding termsOf retained
+  retained-is = refl
+
+  pub leaching-is : termsOf s .L ≡ (s .percolation) * (s .leachate) / 100
+  unfolding termsOf leaching
+  leaching-is = refl
+
+  -- CLmaxS and CLminN by plain numbers
+  pub maxS-plain :
+      maxS (termsOf s)
+      ≡ acidLoad (s .«base_deposition») (s .percolation) (weathering s) (availableWeathering s) (baseDemand s) (s .ratio) (s .gibbsite) (s .ceiling)
+  unfolding termsOf baseSupply aluminiumLimit baseUptake maxS criticalLeaching hydrogen aluminium greatestLevel acidLoad
+  maxS-plain = refl
+
+  pub minN-plain : minN (termsOf s) ≡ standSum nitrogenIn (s .stand) (s .entries) / 10000000 + s .immobilisation
+  unfolding termsOf minN nitrogenUptake
+  minN-plain = refl
+
+-- the parts behind the base supply and the aluminium limit
+pub record PartBounds (s : Site) : Type 0 where
+  pub weathering-le : weathering s ≤ mostWeathering
+  pub available-part : availableWeathering s ≤ weathering s
+  pub available-le : availableWeathering s ≤ mostAvailable
+  -- B + w − Bu and B + W − Bu are not cut off
+  pub uptake-part : baseUptake s ≤ (s .«base_deposition») + availableWeathering s
+  pub supply-part : baseUptake s ≤ (s .«base_deposition») + weathering s
+
+module _ (s : Site) (b : Bounds s) where
+  weathered : weathering s ≤ mostWeathering
+  unfolding weathering weatheringOf
+  weathered =
+      let t = texture-between (s .clay) (s .sand) in
+      let k = class-le (s .parent) (textureOf (s .clay) (s .sand)) (b .parent) (t .0) (t .1) in
+      let whole : (500 * classOf (s .parent) (textureOf (s .clay) (s .sand)) - 250) * (s .depth) ≤ 9750 * 200 = prod 9750 200 (omega arith) (b .depth) in
+      pick-le (eqb (s .parent) 0) (omega arith) (omega arith)
+
+  available-within : availableWeathering s ≤ weathering s
+  available-within = rw (available-is s) (part-le (weathering s) (s .available) (omega (arith, b .available)))
+
+  pub part-bounds : PartBounds s
+  part-bounds =
+      let p : weathering s * (s .available) ≤ mostWeathering * 85 = mul-le-mul weathered (b .available) in
+      record {
+        weathering-le = weathered;
+        available-part = available-within;
+        available-le = omega (arith, available-is s);
+        uptake-part = omega (arith, baseUptake-is s);
+        supply-part = omega (arith, baseUptake-is s, available-within);
+      }
+
+  limited : termsOf s .A ≤ mostA
+  limited =
+      rw (limit-is s)
+      (quotient-le (1500 * ((s .«base_deposition») + availableWeathering s - baseUptake s)) (s .ratio) 100 mostA (b .ratio)
+      (omega (arith, part-bounds .available-le, b .deposition)))
+
+  pub term-bounds : TermBounds (termsOf s)
+  unfolding termsOf
+  term-bounds = record {
+    supply-le = omega (arith, supply-is s, weathered, b .deposition);
+    A-le = limited;
+    Q-le = b .percolation;
+    H-le = b .ceiling;
+    e-least = rw (retained-is s) (retained-pos (s .drainage) (b .drainage));
+    e-most = rw (retained-is s) (retained-le (s .drainage));
+    L-le = omega (arith, leaching-is s, mul-le-mul (b .percolation) (b .leachate));
+  }

@@ -1,0 +1,24 @@
+-- The terms of document 01 at a site, under its letters: all that the loads and the balances know of a site.
+use Prim.Native.Nat.{ℕ, _≤_}
+use Rattle.loads.specs.Most.{mostSupply, mostA, mostL}
+
+pub record Terms : Type 0 where
+  pub Nu : ℕ  -- nitrogen uptake that the site offers
+  pub Ni : ℕ  -- immobilisation that it offers
+  pub supply : ℕ  -- B + W − Bu, the base supply
+  pub A : ℕ  -- aluminium limit
+  pub Q : ℕ  -- percolation
+  pub K : ℕ  -- gibbsite constant
+  pub H : ℕ  -- hydrogen ceiling
+  pub e : ℕ  -- 1000 − d, the part that is not denitrified
+  pub L : ℕ  -- acceptable leaching
+
+-- what the terms of a site that passes the check keep to
+pub record TermBounds (t : Terms) : Type 0 where
+  pub supply-le : t .supply ≤ mostSupply
+  pub A-le : t .A ≤ mostA
+  pub Q-le : t .Q ≤ 3000
+  pub H-le : t .H ≤ 5000
+  pub e-least : 1 ≤ t .e
+  pub e-most : t .e ≤ 1000
+  pub L-le : t .L ≤ mostL

@@ -1,0 +1,51 @@
+-- Rule 11 and what follows from it, by whether the output fits.
+use Prim.Native.Nat.{ℕ, _≤_, _<_}
+use mathlib.Core.Path.{_≡_, refl}
+use mathlib.Core.Bool.{Bool, true, false}
+use lib.Dec.{leb}
+use native.Mathlib.Omega.{arith}
+use borrow.Author.Tests.{le-leb, lt-leb, leb-false}
+use Rattle.site.specs.Refusal.{andThen}
+use Rattle.site.specs.declared.Rule.{Rule}
+use Rattle.site.specs.declared.Rule.the-variants.{BufferShort}
+use Rattle.site.specs.declared.Checked.the-variants.{Passed, Broken}
+use Rattle.site.specs.declared.Checked.{Checked}
+use Rattle.output.specs.Output.{roomRule, outputRule}
+
+module _ (needed room : ℕ) where
+  pub room-enough : needed ≤ room → roomRule needed room ≡ Passed
+  unfolding roomRule
+  room-enough h = rw (le-leb needed room h)
+
+  pub room-short : room < needed → roomRule needed room ≡ Broken BufferShort
+  unfolding roomRule
+  room-short h = rw (lt-leb needed room h)
+
+  pub room-missing : {r : Rule} → roomRule needed room ≡ Broken r → room < needed
+  unfolding roomRule
+  room-missing {r} e = go (leb needed room) refl
+    where
+      go : (b : Bool) → leb needed room ≡ b → room < needed
+      go true q =
+          let p : Passed ≡ Broken r = rw q at e in
+          let z : _≡_ {A = ℕ} 0 1 = cc in
+          absurd (omega arith)
+      go false q = leb-false needed room q
+
+  -- the three ways in which an output ends
+  module _ (own : Checked) where
+    pub output-broken : (r : Rule) → own ≡ Broken r → outputRule own needed room ≡ Broken r
+    unfolding outputRule andThen
+    output-broken r e = rw e
+
+    pub output-room : own ≡ Passed → outputRule own needed room ≡ roomRule needed room
+    unfolding outputRule andThen
+    output-room e = rw e
+
+    pub output-short : own ≡ Passed → room < needed → outputRule own needed room ≡ Broken BufferShort
+    unfolding outputRule andThen
+    output-short e h = rw (e, room-short h)
+
+    pub output-whole : own ≡ Passed → needed ≤ room → outputRule own needed room ≡ Passed
+    unfolding outputRule andThen
+    output-whole e h = rw (e, room-enough h)

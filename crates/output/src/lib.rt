@@ -1,0 +1,4 @@
+// Output into a lent buffer.
+mod writing;
+
+pub use writing::put_bytes;

@@ -1,0 +1,20 @@
+-- What is printed.
+use Prim.Native.Nat.{ℕ}
+use mathlib.Core.Path.{_≡_}
+use mathlib.Core.List.{List, []}
+use lib.ListN.{length, take}
+use Rattle.listing.specs.Listing.{reportOf}
+use Rattle.program.specs.declared.Reading.{Reading}
+use Rattle.program.specs.declared.Reading.the-variants.{More, Ended, Failed}
+
+-- the report of the bytes that were read, where the file has ended; nothing after a failed read
+unfoldable pub outputOf : Reading → List ℕ → List ℕ
+outputOf (Ended n) b = reportOf (take n b)
+outputOf (More n) b = []
+outputOf Failed b = []
+
+-- the buffer b holds the file f, or as many of its first bytes as it takes
+pub record ReadFrom (f b : List ℕ) (r : Reading) : Type 0 where
+  pub count : ℕ
+  pub ended : r ≡ Ended count
+  pub bytes : take count b ≡ take (length b) f

@@ -1,0 +1,20 @@
+// What the program decides: what follows a read, and what is printed.
+mod printing;
+mod reader;
+
+pub use printing::answer;
+pub use reader::after_read;
+pub use reader::read_all;
+
+// Where the reading of a file stands, with how many bytes are read.
+pub enum Reading {
+    More(usize),
+    Ended(usize),
+    Failed,
+}
+
+// Where the reads have led, and the number that the last of them gave.
+pub struct Input {
+    pub reading: Reading,
+    pub last: isize,
+}

@@ -1,0 +1,38 @@
+// What is printed.
+ghost use mathlib.Core.Path.{_≡_};
+ghost use mathlib.Core.List.{List, _++_};
+ghost use Prim.Native.Nat.{ℕ, _≤_, min};
+ghost use lib.ListN.{length, take, drop};
+ghost use Rattle.listing.specs.Listing.{reportOf};
+ghost use Rattle.listing.specs.Demand3.{Demand3};
+ghost use Rattle.program.specs.declared.Reading.the-variants.{Failed};
+ghost use Rattle.program.specs.Output.{outputOf, ReadFrom};
+use crate::Reading;
+use listing::shown;
+
+fn least(a: usize, b: usize) -> usize
+    ensures { λ r. ⌜ (r ≡ min a b) × (r ≤ b) ⌝ }
+{
+    if a < b { a } else { b }
+}
+
+// The report of what was read, where the reading has ended, and nothing otherwise; gives how many bytes to print. The file's buffer
+// has room for 500 records of the greatest length and a byte more, the output's for every listing.
+pub fn answer(file: &[u8; 129001], reading: Reading, out: &mut [u8; 81551]) -> usize
+    ensures inside { λ r. ⌜ (r ≤ length (now (out .exit))) × (r ≡ length (take r (now (out .exit)))) ⌝ }
+    ensures answer { λ r. ⌜ r ≡ length (outputOf reading (now (file .entry))) ⌝ }
+    ensures buffer { λ _. ⌜ now (out .exit) ≡ outputOf reading (now (file .entry)) ++ drop (length (outputOf reading (now (file .entry)))) (now (out .entry)) ⌝ }
+    ensures failed { λ r. ⌜ (reading ≡ Failed → (r ≡ 0) × (now (out .exit) ≡ now (out .entry))) ⌝ }
+    ensures whole { λ r. ⌜ ((f : List ℕ) → ReadFrom f (now (file .entry)) reading → take r (now (out .exit)) ≡ reportOf f) ⌝ }
+    ensures demand3 { λ r. ⌜ ((f : List ℕ) → ReadFrom f (now (file .entry)) reading → Demand3 f (take r (now (out .exit)))) ⌝ }
+{
+    match reading {
+        Reading::Ended(n) => {
+            let bytes: &[u8] = file;
+            let m = least(n, bytes.len());
+            shown(&bytes[..m], out)
+        }
+        Reading::More(_) => 0,
+        Reading::Failed => 0,
+    }
+}

@@ -1,0 +1,56 @@
+-- Laws of a file of site records.
+use Prim.Native.Nat.{ℕ, _≤_, _<_}
+use mathlib.Core.Path.{_≡_, sym, _∙_}
+use mathlib.Core.List.{List, map}
+use native.Mathlib.Omega.{arith}
+use lib.ListN.{length, take}
+use Rattle.site.specs.declared.Site.{Site}
+use Rattle.site.specs.declared.Rule.the-variants.{NoBytes}
+use Rattle.site.specs.declared.Checked.the-variants.{Passed}
+use Rattle.site.specs.Check.{siteRule}
+use Rattle.record.specs.Result.{good, fault}
+use Rattle.field.specs.Field.{siteKind}
+use Rattle.record.specs.Outer.{siteAt}
+use Rattle.record.specs.Records.{mostRecord}
+use Rattle.record.specs.File.{walkFile, contents, mostFile, encodeAll}
+use Rattle.field.specs.Clean.{clean, Sized, Bytes}
+use Rattle.record.specs.Writer.{encode}
+use Rattle.field.proofs.All.{All}
+use Rattle.record.proofs.EncodeLaws.{length-encode}
+use Rattle.record.proofs.FileLaws.{contents-none, contents-some, contents-every, contents-more, contents-written, contents-read}
+use Rattle.record.proofs.Place.{site-take, site-near, site-after, site-passes, site-bytes, site-read}
+
+module _ (f : List ℕ) where
+  pub sites-none : length f ≤ 0 → contents f ≡ fault NoBytes 0
+  unfolding contents
+  sites-none h = contents-none (siteAt f) (length f) h
+
+  pub sites-some : 0 < length f → contents f ≡ walkFile (siteAt f) (length f) 500 0
+  unfolding contents
+  sites-some h = contents-some (siteAt f) (length f) h
+
+  -- the sites of a file that passes: at most 500, and each passes the check
+  pub sites-checked : (ss : List Site) → contents f ≡ good ss → (length ss ≤ 500) × All (λ s. siteRule s ≡ Passed) ss
+  unfolding contents
+  sites-checked ss e = contents-every (siteAt f) (length f) (λ s. siteRule s ≡ Passed) (λ at x r. site-passes f at r) ss e
+
+  pub sites-more : (m : ℕ) → mostFile ≤ m → contents (take m f) ≡ contents f
+  unfolding contents
+  sites-more m h = contents-more siteAt mostRecord site-take (λ g at x r. site-near g at r) f m (omega arith)
+
+  -- a file that passes is the records of its sites, one after another
+  pub sites-written : Bytes f → (ss : List Site) → contents f ≡ good ss → f ≡ encodeAll encode ss
+  unfolding contents
+  sites-written b ss e = contents-written (siteAt f) encode f (λ at x r. (omega (arith, site-after f at r), site-bytes f at r b)) ss e
+
+-- 1 to 500 sites that pass, encoded one after another, are read back, with zeros past their names and entries
+pub sites-read : (ss : List Site) → All (λ s. Sized s × (siteRule s ≡ Passed)) ss → 1 ≤ length ss → length ss ≤ 500
+    → contents (encodeAll encode ss) ≡ good (map clean ss)
+unfolding contents siteAt
+sites-read ss ok h l =
+    contents-read siteAt encode clean (λ s. Sized s × (siteRule s ≡ Passed)) (λ s. omega (arith, length-encode siteKind s))
+    (λ s p f at rest e. rw e (site-read s (p .0) (p .1) rest at)) ss ok h l
+
+-- two different files never hold the same sites
+pub sites-injective : (f g : List ℕ) → Bytes f → Bytes g → (ss : List Site) → contents f ≡ good ss → contents g ≡ good ss → f ≡ g
+sites-injective f g b c ss p q = sites-written f b ss p ∙ sym (sites-written g c ss q)

@@ -1,0 +1,14 @@
+-- What reading gives: a value, or the rule that is broken first and where.
+use Prim.Native.Nat.{ℕ}
+use Rattle.site.specs.declared.Rule.{Rule}
+use Rattle.site.specs.declared.Checked.{Checked}
+use Rattle.site.specs.declared.Checked.the-variants.{Passed, Broken}
+
+pub data Result (A : Type 0) : Type 0 where
+  good : A → Result A
+  fault : Rule → ℕ → Result A
+
+-- r, unless a rule is broken at the field that starts at `at`
+unfoldable pub unless : {A : Type 0} → Checked → ℕ → Result A → Result A
+unless Passed at r = r
+unless (Broken k) at r = fault k at
