@@ -13,6 +13,7 @@ use Rattle.site.specs.Bounds.{noEntry}
 use Rattle.site.specs.Choice.{pick}
 use Rattle.field.specs.Field.{table, entryAt, store, entriesBytes, value, siteKind}
 use Rattle.field.specs.Kind.{fieldRule}
+use Rattle.site.specs.Ranges.{parentRange, depthRange, drainageRange, percolationRange, immobilisationRange, availableRange, baseDepositionRange, ratioRange, gibbsiteRange, ceilingRange, leachateRange}
 use Rattle.site.specs.Values.{due, itemWidths, mostItems, lengthPermitted, itemCount, countRule, valueRule, ranged, between}
 use Rattle.site.proofs.LengthLaws.{permitted-parts, parts-permitted, parts-counted, one-item}
 use Rattle.field.specs.Clean.{Sized, Bytes}
@@ -160,18 +161,18 @@ pub tags : All TagLaws due
 unfolding value valueRule store countRule itemCount Tidy lengthPermitted
 tags =
     name-tag
-    ▸ one-tag 2 (byte-item siteKind 2 (λ s. s .parent) (between 0 4) (one-length 2 1 refl refl refl) (λ s v. (refl, refl, refl)) (λ u v x h. rw (ne-eqb u 2 h))) (λ s. (refl, tt))
+    ▸ one-tag 2 (byte-item siteKind 2 (λ s. s .parent) (between parentRange) (one-length 2 1 refl refl refl) (λ s v. (refl, refl, refl)) (λ u v x h. rw (ne-eqb u 2 h))) (λ s. (refl, tt))
     ▸ one-tag 3 (pair-item siteKind 3 (λ s. (s .clay, s .sand)) (λ b. ranged (leb (b .0 + b .1) 100)) (one-length 3 2 refl refl refl) (λ s v. (refl, refl, refl)) (λ u v x h. rw (ne-eqb u 3 h))) (λ s. (refl, tt))
-    ▸ one-tag 4 (byte-item siteKind 4 (λ s. s .depth) (between 1 200) (one-length 4 1 refl refl refl) (λ s v. (refl, refl, refl)) (λ u v x h. rw (ne-eqb u 4 h))) (λ s. (refl, tt))
-    ▸ one-tag 5 (byte-item siteKind 5 (λ s. s .drainage) (between 0 5) (one-length 5 1 refl refl refl) (λ s v. (refl, refl, refl)) (λ u v x h. rw (ne-eqb u 5 h))) (λ s. (refl, tt))
-    ▸ one-tag 6 (word-item siteKind 6 (λ s. s .percolation) (between 1 3000) (one-length 6 2 refl refl refl) (λ s v. (refl, refl, refl)) (λ u v x h. rw (ne-eqb u 6 h))) (λ s. (refl, tt))
+    ▸ one-tag 4 (byte-item siteKind 4 (λ s. s .depth) (between depthRange) (one-length 4 1 refl refl refl) (λ s v. (refl, refl, refl)) (λ u v x h. rw (ne-eqb u 4 h))) (λ s. (refl, tt))
+    ▸ one-tag 5 (byte-item siteKind 5 (λ s. s .drainage) (between drainageRange) (one-length 5 1 refl refl refl) (λ s v. (refl, refl, refl)) (λ u v x h. rw (ne-eqb u 5 h))) (λ s. (refl, tt))
+    ▸ one-tag 6 (word-item siteKind 6 (λ s. s .percolation) (between percolationRange) (one-length 6 2 refl refl refl) (λ s v. (refl, refl, refl)) (λ u v x h. rw (ne-eqb u 6 h))) (λ s. (refl, tt))
     ▸ stand-tag
-    ▸ one-tag 8 (word-item siteKind 8 (λ s. s .immobilisation) (between 0 500) (one-length 8 2 refl refl refl) (λ s v. (refl, refl, refl)) (λ u v x h. rw (ne-eqb u 8 h))) (λ s. (refl, tt))
-    ▸ one-tag 9 (byte-item siteKind 9 (λ s. s .available) (between 70 85) (one-length 9 1 refl refl refl) (λ s v. (refl, refl, refl)) (λ u v x h. rw (ne-eqb u 9 h))) (λ s. (refl, tt))
-    ▸ one-tag 10 (word-item siteKind 10 (λ s. s .«base_deposition») (between 0 5000) (one-length 10 2 refl refl refl) (λ s v. (refl, refl, refl)) (λ u v x h. rw (ne-eqb u 10 h))) (λ s. (refl, tt))
-    ▸ one-tag 11 (word-item siteKind 11 (λ s. s .ratio) (between 100 20000) (one-length 11 2 refl refl refl) (λ s v. (refl, refl, refl)) (λ u v x h. rw (ne-eqb u 11 h))) (λ s. (refl, tt))
-    ▸ one-tag 12 (word-item siteKind 12 (λ s. s .gibbsite) (between 1 10000) (one-length 12 2 refl refl refl) (λ s v. (refl, refl, refl)) (λ u v x h. rw (ne-eqb u 12 h))) (λ s. (refl, tt))
-    ▸ one-tag 13 (word-item siteKind 13 (λ s. s .ceiling) (between 1 5000) (one-length 13 2 refl refl refl) (λ s v. (refl, refl, refl)) (λ u v x h. rw (ne-eqb u 13 h))) (λ s. (refl, tt))
-    ▸ one-tag 14 (word-item siteKind 14 (λ s. s .leachate) (between 1 1000) (one-length 14 2 refl refl refl) (λ s v. (refl, refl, refl)) (λ u v x h. rw (ne-eqb u 14 h))) (λ s. (refl, tt))
+    ▸ one-tag 8 (word-item siteKind 8 (λ s. s .immobilisation) (between immobilisationRange) (one-length 8 2 refl refl refl) (λ s v. (refl, refl, refl)) (λ u v x h. rw (ne-eqb u 8 h))) (λ s. (refl, tt))
+    ▸ one-tag 9 (byte-item siteKind 9 (λ s. s .available) (between availableRange) (one-length 9 1 refl refl refl) (λ s v. (refl, refl, refl)) (λ u v x h. rw (ne-eqb u 9 h))) (λ s. (refl, tt))
+    ▸ one-tag 10 (word-item siteKind 10 (λ s. s .«base_deposition») (between baseDepositionRange) (one-length 10 2 refl refl refl) (λ s v. (refl, refl, refl)) (λ u v x h. rw (ne-eqb u 10 h))) (λ s. (refl, tt))
+    ▸ one-tag 11 (word-item siteKind 11 (λ s. s .ratio) (between ratioRange) (one-length 11 2 refl refl refl) (λ s v. (refl, refl, refl)) (λ u v x h. rw (ne-eqb u 11 h))) (λ s. (refl, tt))
+    ▸ one-tag 12 (word-item siteKind 12 (λ s. s .gibbsite) (between gibbsiteRange) (one-length 12 2 refl refl refl) (λ s v. (refl, refl, refl)) (λ u v x h. rw (ne-eqb u 12 h))) (λ s. (refl, tt))
+    ▸ one-tag 13 (word-item siteKind 13 (λ s. s .ceiling) (between ceilingRange) (one-length 13 2 refl refl refl) (λ s v. (refl, refl, refl)) (λ u v x h. rw (ne-eqb u 13 h))) (λ s. (refl, tt))
+    ▸ one-tag 14 (word-item siteKind 14 (λ s. s .leachate) (between leachateRange) (one-length 14 2 refl refl refl) (λ s v. (refl, refl, refl)) (λ u v x h. rw (ne-eqb u 14 h))) (λ s. (refl, tt))
     ▸ one-tag 15 (words-item siteKind 15 (λ s. (s .sulphur, s .nitrogen)) (λ b. Passed) (one-length 15 4 refl refl refl) (λ s v. (refl, refl, refl)) (λ u v x h. rw (ne-eqb u 15 h))) (λ s. (refl, tt))
     ▸ none

@@ -5,6 +5,7 @@ use mathlib.Core.List.{List, [], _∷_, _++_, map, append-nil}
 use native.Mathlib.Omega.{arith}
 use lib.ListN.{length, set, replicate, length-append}
 use lib.Seq.{append-snoc, set-append-seam}
+use Rattle.site.specs.Ranges.{mostRecords}
 use Rattle.site.specs.declared.Site.{Site}
 use Rattle.site.specs.declared.Rule.{Rule}
 use Rattle.site.specs.declared.Rule.the-variants.{TooMany}
@@ -39,9 +40,9 @@ before-first ss s (fault rule at) = refl
 pub record So (f : List ℕ) (rows : List Row) (count at : ℕ) : Type 0 where
   pub ss : List Site
   pub counted : count ≡ length ss
-  pub few : count ≤ 500
+  pub few : count ≤ mostRecords
   pub filled : rows ≡ padded (map rowOf ss)
-  pub rest : contents f ≡ before ss (walkFile (siteAt f) (length f) (500 - count) at)
+  pub rest : contents f ≡ before ss (walkFile (siteAt f) (length f) (mostRecords - count) at)
 
 pub so-start : (f : List ℕ) → 0 < length f → So f (padded []) 0 0
 so-start f h = record {
@@ -49,31 +50,31 @@ so-start f h = record {
   counted = refl;
   few = omega arith;
   filled = refl;
-  rest = sites-some f h ∙ before-none (walkFile (siteAt f) (length f) 500 0);
+  rest = sites-some f h ∙ before-none (walkFile (siteAt f) (length f) mostRecords 0);
 }
 
 -- one more row
-padded-set : (rs : List Row) (r : Row) → length rs < 500 → set (padded rs) (length rs) r ≡ padded (rs ++ (r ∷ []))
+padded-set : (rs : List Row) (r : Row) → length rs < mostRecords → set (padded rs) (length rs) r ≡ padded (rs ++ (r ∷ []))
 unfolding padded
 padded-set rs r h =
-    let n : 500 - length rs ≡ suc (500 - length (rs ++ (r ∷ []))) = simp length-append (omega arith) in
-    rw n (set-append-seam rs blankRow (replicate (500 - length (rs ++ (r ∷ []))) blankRow) r ∙ sym (append-snoc rs r _))
+    let n : mostRecords - length rs ≡ suc (mostRecords - length (rs ++ (r ∷ []))) = simp length-append (omega arith) in
+    rw n (set-append-seam rs blankRow (replicate (mostRecords - length (rs ++ (r ∷ []))) blankRow) r ∙ sym (append-snoc rs r _))
 
 module _ {f : List ℕ} {rows : List Row} {count at : ℕ} (so : So f rows count at) where
   pub so-end : length f ≤ at → record { outcome = Accepted; rows = rows; count = count } ≡ walkedOf (contents f)
   unfolding walkedOf
-  so-end h = rw (so .rest, walk-end (siteAt f) (length f) (500 - count) at h, append-nil, so .filled, so .counted)
+  so-end h = rw (so .rest, walk-end (siteAt f) (length f) (mostRecords - count) at h, append-nil, so .filled, so .counted)
 
-  pub so-full : at < length f → 500 ≤ count → contents f ≡ fault TooMany at
+  pub so-full : at < length f → mostRecords ≤ count → contents f ≡ fault TooMany at
   so-full h l =
-      let z : 500 - count ≡ 0 = omega arith in
+      let z : mostRecords - count ≡ 0 = omega arith in
       so .rest ∙ rw (z, walk-full (siteAt f) (length f) at h)
 
-  module _ (h : at < length f) (l : count < 500) where
-    so-step : contents f ≡ before (so .ss) (onto (siteAt f at) (walkFile (siteAt f) (length f) (500 - (count + 1))))
+  module _ (h : at < length f) (l : count < mostRecords) where
+    so-step : contents f ≡ before (so .ss) (onto (siteAt f at) (walkFile (siteAt f) (length f) (mostRecords - (count + 1))))
     so-step =
-        let z : 500 - count ≡ suc (500 - (count + 1)) = omega arith in
-        so .rest ∙ rw (z, walk-step (siteAt f) (length f) (500 - (count + 1)) at h)
+        let z : mostRecords - count ≡ suc (mostRecords - (count + 1)) = omega arith in
+        so .rest ∙ rw (z, walk-step (siteAt f) (length f) (mostRecords - (count + 1)) at h)
 
     pub so-bad : {rule : Rule} {p : ℕ} → recordAt f at .outcome ≡ Refused rule p → contents f ≡ fault rule p
     unfolding onto

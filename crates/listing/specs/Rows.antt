@@ -2,6 +2,7 @@
 use Prim.Native.Nat.{ℕ, _-_}
 use mathlib.Core.List.{List, [], _++_, map}
 use lib.ListN.{length, replicate}
+use Rattle.site.specs.Ranges.{mostRecords}
 use Rattle.site.specs.declared.Site.{Site}
 use Rattle.judgement.specs.declared.Verdict.the-variants.{Within}
 use Rattle.judgement.specs.declared.Judged.{Judged}
@@ -42,7 +43,7 @@ turnOf x = turnBy (x .outcome) (x .site) (x .next)
 
 -- 500 rows, of which the first are rs
 unfoldable pub padded : List Row → List Row
-padded rs = rs ++ replicate (500 - length rs) blankRow
+padded rs = rs ++ replicate (mostRecords - length rs) blankRow
 
 unfoldable pub walkedOf : Contents Site → Walked
 walkedOf (good ss) = record { outcome = Accepted; rows = padded (map rowOf ss); count = length ss }

@@ -10,6 +10,7 @@ use lib.Dec.{leb}
 use Rattle.site.specs.declared.Checked.{Checked}
 use Rattle.site.specs.declared.Checked.the-variants.{Passed, Broken}
 use Rattle.site.specs.Refusal.{andThen, valuesIf}
+use Rattle.site.specs.Ranges.{ceilingRange, percolationRange, gibbsiteRange}
 use Rattle.site.specs.Values.{between}
 use Rattle.site.proofs.Passing.{both-passed, between-passed}
 use Rattle.loads.specs.declared.LevelAnswer.{LevelAnswer}
@@ -68,19 +69,19 @@ pub cube : (h : ℕ) → h ^ 3 ≡ h * h * h
 cube h = rw (pow-suc h 2, pow-suc h 1, pow-suc h 0, pow-zero) (simp one-mul)
 
 -- the product under al(h) fits 64 bits, and so do its parts
-pub square-le : {h : ℕ} → h ≤ 5000 → h * h ≤ 25000000
+pub square-le : {h : ℕ} → h ≤ ceilingRange .most → h * h ≤ 25000000
 square-le l = mul-le-mul l l
 
-pub cube-le : {h : ℕ} → h ≤ 5000 → h * h * h ≤ 125000000000
+pub cube-le : {h : ℕ} → h ≤ ceilingRange .most → h * h * h ≤ 125000000000
 cube-le l = mul-le-mul (square-le l) l
 
-pub qk-le : {q k : ℕ} → q ≤ 3000 → k ≤ 10000 → q * k ≤ 30000000
+pub qk-le : {q k : ℕ} → q ≤ percolationRange .most → k ≤ gibbsiteRange .most → q * k ≤ 30000000
 qk-le = mul-le-mul
 
-pub al-le : {q k h : ℕ} → q ≤ 3000 → k ≤ 10000 → h ≤ 5000 → q * k * (h * h * h) ≤ 3750000000000000000
+pub al-le : {q k h : ℕ} → q ≤ percolationRange .most → k ≤ gibbsiteRange .most → h ≤ ceilingRange .most → q * k * (h * h * h) ≤ 3750000000000000000
 al-le a b c = mul-le-mul (qk-le a b) (cube-le c)
 
-pub alOf-bound : {q k h : ℕ} → q ≤ 3000 → k ≤ 10000 → h ≤ 5000 → alOf q k h ≤ 3750000
+pub alOf-bound : {q k h : ℕ} → q ≤ percolationRange .most → k ≤ gibbsiteRange .most → h ≤ ceilingRange .most → alOf q k h ≤ 3750000
 unfolding alOf
 alOf-bound {q} {k} {h} a b c = rw (cube h) (omega (arith, al-le a b c))
 
@@ -88,12 +89,12 @@ alOf-bound {q} {k} {h} a b c = rw (cube h) (omega (arith, al-le a b c))
 pub level-passed : (q k ceiling : ℕ) → levelRule q k ceiling ≡ Passed → Levels q k ceiling
 unfolding levelRule
 level-passed q k ceiling e =
-    let first = both-passed (between 1 3000 q) (andThen (between 1 10000 k) (between 1 5000 ceiling)) e in
-    let second = both-passed (between 1 10000 k) (between 1 5000 ceiling) (first .1) in
+    let first = both-passed (between percolationRange q) (andThen (between gibbsiteRange k) (between ceilingRange ceiling)) e in
+    let second = both-passed (between gibbsiteRange k) (between ceilingRange ceiling) (first .1) in
     record {
-      percolation = between-passed 1 3000 q (first .0) .1;
-      gibbsite = between-passed 1 10000 k (second .0) .1;
-      level = between-passed 1 5000 ceiling (second .1) .1;
+      percolation = between-passed percolationRange q (first .0) .1;
+      gibbsite = between-passed gibbsiteRange k (second .0) .1;
+      level = between-passed ceilingRange ceiling (second .1) .1;
     }
 
 -- all that the search promises, from its equation

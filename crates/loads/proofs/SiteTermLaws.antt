@@ -5,6 +5,7 @@ use mathlib.Core.Path.{_≡_, refl}
 use native.Mathlib.Omega.{arith}
 use native.Mathlib.Nat.{mul-le-mul}
 use lib.Dec.{eqb}
+use Rattle.site.specs.Ranges.{depthRange, availableRange}
 use Rattle.site.specs.Choice.{pick}
 use Rattle.site.specs.Bounds.{Bounds}
 use Rattle.site.specs.declared.Site.{Site}
@@ -87,7 +88,7 @@ module _ (s : Site) (b : Bounds s) where
   weathered =
       let t = texture-between (s .clay) (s .sand) in
       let k = class-le (s .parent) (textureOf (s .clay) (s .sand)) (b .parent) (t .0) (t .1) in
-      let whole : (500 * classOf (s .parent) (textureOf (s .clay) (s .sand)) - 250) * (s .depth) ≤ 9750 * 200 = prod 9750 200 (omega arith) (b .depth) in
+      let whole : (500 * classOf (s .parent) (textureOf (s .clay) (s .sand)) - 250) * (s .depth) ≤ 9750 * depthRange .most = prod 9750 (depthRange .most) (omega arith) (b .depth) in
       pick-le (eqb (s .parent) 0) (omega arith) (omega arith)
 
   available-within : availableWeathering s ≤ weathering s
@@ -95,7 +96,7 @@ module _ (s : Site) (b : Bounds s) where
 
   pub part-bounds : PartBounds s
   part-bounds =
-      let p : weathering s * (s .available) ≤ mostWeathering * 85 = mul-le-mul weathered (b .available) in
+      let p : weathering s * (s .available) ≤ mostWeathering * availableRange .most = mul-le-mul weathered (b .available) in
       record {
         weathering-le = weathered;
         available-part = available-within;

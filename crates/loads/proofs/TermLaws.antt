@@ -3,6 +3,7 @@ use Prim.Native.Nat.{ℕ, _+_, _*_, _/_, _≤_}
 use mathlib.Core.Path.{_≡_, refl}
 use native.Mathlib.Omega.{arith}
 use native.Mathlib.Nat.{mul-le-mul}
+use Rattle.site.specs.Ranges.{ceilingRange}
 use Rattle.loads.specs.Most.{mostHydrogen, mostMaxS}
 use Rattle.loads.specs.Terms.{Terms, TermBounds}
 use Rattle.loads.specs.Hydrogen.{hydrogenOf, hydrogen, aluminium, greatestLevel, criticalLeaching}
@@ -59,7 +60,7 @@ module _ (t : Terms) where
     leached : hydrogen t (greatestLevel t) ≤ mostHydrogen
     unfolding hydrogen hydrogenOf
     leached =
-        let h : greatestLevel t ≤ 5000 = omega (arith, greatest-ceiling, b .H-le) in
+        let h : greatestLevel t ≤ ceilingRange .most = omega (arith, greatest-ceiling, b .H-le) in
         let p : t .Q * greatestLevel t ≤ 15000000 = mul-le-mul (b .Q-le) h in
         omega arith
 

@@ -3,15 +3,16 @@ use Prim.Native.Nat.{ℕ, _+_, _*_, _-_, _/_, _≤_, _<_}
 use mathlib.Core.Path.{_≡_}
 use mathlib.Core.List.{List}
 use Rattle.site.specs.declared.Entry.{Entry}
+use Rattle.site.specs.Ranges.{mostEntries, percolationRange, gibbsiteRange, ceilingRange, baseDepositionRange}
 use Rattle.loads.specs.Most.{mostWeathering, mostA, mostMaxS, mostMinN, mostL, mostNitrogenWeight, mostBaseWeight}
 use Rattle.loads.specs.Uptake.{nitrogenIn, baseIn, weightOf, standSum, baseUptakeOf}
 use Rattle.loads.specs.Hydrogen.{hydrogenOf, alOf, levelOf}
 
 -- percolation, gibbsite constant, and a hydrogen level or ceiling
 pub record Levels (q k h : ℕ) : Type 0 where
-  pub percolation : q ≤ 3000
-  pub gibbsite : k ≤ 10000
-  pub level : h ≤ 5000
+  pub percolation : q ≤ percolationRange .most
+  pub gibbsite : k ≤ gibbsiteRange .most
+  pub level : h ≤ ceilingRange .most
 
 -- what one entry weighs, for N and for Ca + Mg + K
 pub record Weighed (e : Entry) (n b : ℕ) : Type 0 where
@@ -24,19 +25,19 @@ pub record Weighed (e : Entry) (n b : ℕ) : Type 0 where
 pub record Summed (stand : List Entry) (k n b : ℕ) : Type 0 where
   pub nitrogen : n ≡ standSum nitrogenIn stand k
   pub base : b ≡ standSum baseIn stand k
-  pub nitrogen-le : n ≤ 4 * mostNitrogenWeight
-  pub base-le : b ≤ 4 * mostBaseWeight
+  pub nitrogen-le : n ≤ mostEntries * mostNitrogenWeight
+  pub base-le : b ≤ mostEntries * mostBaseWeight
 
 -- base deposition, percolation, W, w, ratio, gibbsite constant and ceiling
 pub record AcidBounds (b q weathered available ratio k ceiling : ℕ) : Type 0 where
-  pub deposition : b ≤ 5000
-  pub percolation : q ≤ 3000
+  pub deposition : b ≤ baseDepositionRange .most
+  pub percolation : q ≤ percolationRange .most
   pub weathering : weathered ≤ mostWeathering
   pub part : available ≤ weathered
   pub limit : 1500 * (b + available) ≤ mostA * ratio
   pub divisor : 0 < ratio
-  pub gibbsite : k ≤ 10000
-  pub level : ceiling ≤ 5000
+  pub gibbsite : k ≤ gibbsiteRange .most
+  pub level : ceiling ≤ ceilingRange .most
 
 -- CLmaxS, CLminN, L and e
 pub record NitrogenBounds (c m leached e : ℕ) : Type 0 where

@@ -5,6 +5,7 @@ use mathlib.Core.List.{List, [], _∷_}
 use lib.Dec.{leb}
 use Rattle.site.specs.Choice.{pick}
 use Rattle.site.specs.Refusal.{ruleNumber, andThen}
+use Rattle.site.specs.Ranges.{percolationRange, gibbsiteRange, ceilingRange}
 use Rattle.site.specs.Values.{between}
 use Rattle.site.specs.declared.Checked.{Checked}
 use Rattle.site.specs.declared.Checked.the-variants.{Passed, Broken}
@@ -45,7 +46,7 @@ criticalLeaching t = hydrogen t (greatestLevel t) + aluminium t (greatestLevel t
 
 -- rule 8 for the numbers of the search
 unfoldable pub levelRule : (q k ceiling : ℕ) → Checked
-levelRule q k ceiling = andThen (between 1 3000 q) (andThen (between 1 10000 k) (between 1 5000 ceiling))
+levelRule q k ceiling = andThen (between percolationRange q) (andThen (between gibbsiteRange k) (between ceilingRange ceiling))
 
 unfoldable pub levelIf : Checked → ℕ → LevelAnswer
 levelIf Passed h = Greatest h

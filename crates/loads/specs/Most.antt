@@ -1,41 +1,42 @@
 -- The greatest values at a site that passes the check, each written once: what the terms can reach, and so the loads and the sums behind them.
 use Prim.Native.Nat.{ℕ, _+_, _*_, _-_, _/_}
+use Rattle.site.specs.Ranges.{depthRange, percolationRange, mostEntries, shareRange, yieldRange, immobilisationRange, availableRange, baseDepositionRange, ratioRange, ceilingRange, leachateRange}
 
--- W: class 20 and root depth 200; 19500
+-- W, at class 20; 19500
 abbrev pub mostWeathering : ℕ
-mostWeathering = (500 * 20 - 250) * 200 / 100
+mostWeathering = (500 * 20 - 250) * depthRange .most / 100
 
--- w, at a share p of 85; 16575
+-- w; 16575
 abbrev pub mostAvailable : ℕ
-mostAvailable = mostWeathering * 85 / 100
+mostAvailable = mostWeathering * availableRange .most / 100
 
 -- B + W − Bu; 24500
 abbrev pub mostSupply : ℕ
-mostSupply = 5000 + mostWeathering
+mostSupply = baseDepositionRange .most + mostWeathering
 
--- A, at a ratio r of 100; 323625
+-- A; 323625
 abbrev pub mostA : ℕ
-mostA = 1500 * (5000 + mostAvailable) / 100
+mostA = 1500 * (baseDepositionRange .most + mostAvailable) / ratioRange .least
 
--- hydrogen, at percolation 3000 and level 5000
+-- hydrogen; 15000
 abbrev pub mostHydrogen : ℕ
-mostHydrogen = 15000
+mostHydrogen = percolationRange .most * ceilingRange .most / 1000
 
--- L, at percolation 3000 and 1000 in the leachate
+-- L; 30000
 abbrev pub mostL : ℕ
-mostL = 30000
+mostL = percolationRange .most * leachateRange .most / 100
 
 -- CLmaxS; 363125
 abbrev pub mostMaxS : ℕ
 mostMaxS = mostSupply + mostHydrogen + mostA
 
--- CLminN, generously
-abbrev pub mostMinN : ℕ
-mostMinN = 100000
-
 -- share × yield × content of one entry, for N and for Ca + Mg + K, with contents of two bytes
 abbrev pub mostNitrogenWeight : ℕ
-mostNitrogenWeight = 100 * 20000 * 65535
+mostNitrogenWeight = shareRange .most * yieldRange .most * 65535
 
 abbrev pub mostBaseWeight : ℕ
-mostBaseWeight = 100 * 20000 * (3 * 65535)
+mostBaseWeight = shareRange .most * yieldRange .most * (3 * 65535)
+
+-- CLminN, though the shares of all entries add up to 100; 52928
+abbrev pub mostMinN : ℕ
+mostMinN = mostEntries * mostNitrogenWeight / 10000000 + immobilisationRange .most

@@ -1,5 +1,6 @@
 -- The terms of document 01 at a site, under its letters: all that the loads and the balances know of a site.
 use Prim.Native.Nat.{ℕ, _≤_}
+use Rattle.site.specs.Ranges.{percolationRange, ceilingRange}
 use Rattle.loads.specs.Most.{mostSupply, mostA, mostL}
 
 pub record Terms : Type 0 where
@@ -17,8 +18,8 @@ pub record Terms : Type 0 where
 pub record TermBounds (t : Terms) : Type 0 where
   pub supply-le : t .supply ≤ mostSupply
   pub A-le : t .A ≤ mostA
-  pub Q-le : t .Q ≤ 3000
-  pub H-le : t .H ≤ 5000
+  pub Q-le : t .Q ≤ percolationRange .most
+  pub H-le : t .H ≤ ceilingRange .most
   pub e-least : 1 ≤ t .e
   pub e-most : t .e ≤ 1000
   pub L-le : t .L ≤ mostL

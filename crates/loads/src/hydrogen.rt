@@ -3,17 +3,19 @@ ghost use mathlib.Core.Path.{_≡_};
 ghost use Prim.Native.Nat.{_+_, _*_, _/_, _≤_, _<_};
 ghost use mathlib.Core.List.{[], _∷_};
 ghost use Rattle.site.specs.Refusal.{valuesIf};
-ghost use Rattle.loads.specs.Most.{mostA, mostHydrogen};
+ghost use Rattle.loads.specs.Most.{mostSupply, mostA, mostHydrogen};
 ghost use Rattle.loads.specs.Hydrogen.{hydrogenOf, alOf, levelOf, levelRule, levelAnswer, levelValues};
 ghost use Rattle.loads.specs.Conditions.{Levels};
 use crate::LevelAnswer;
 use crate::widen::wide16;
 use site::Checked;
-use site::word_between;
+use site::ceiling_rule;
+use site::gibbsite_rule;
+use site::percolation_rule;
 
 // A: left is B + w − Bu
 pub fn aluminium_limit(left: u64, ratio: u64) -> u64
-    requires { ⌜ (left ≤ 100000) × (0 < ratio) × (1500 * left ≤ mostA * ratio) ⌝ }
+    requires { ⌜ (left ≤ mostSupply) × (0 < ratio) × (1500 * left ≤ mostA * ratio) ⌝ }
     ensures { λ r. ⌜ (r ≡ 1500 * left / ratio) × (r ≤ mostA) ⌝ }
 {
     1500 * left / ratio
@@ -61,11 +63,11 @@ pub fn critical_leaching(q: u64, k: u64, limit: u64, ceiling: u64) -> u64
 fn level_rule(q: u16, k: u16, ceiling: u16) -> Checked
     ensures { λ r. ⌜ r ≡ levelRule q k ceiling ⌝ }
 {
-    match word_between(1, 3000, q) {
+    match percolation_rule(q) {
         Checked::Broken(rule) => Checked::Broken(rule),
-        Checked::Passed => match word_between(1, 10000, k) {
+        Checked::Passed => match gibbsite_rule(k) {
             Checked::Broken(rule) => Checked::Broken(rule),
-            Checked::Passed => word_between(1, 5000, ceiling),
+            Checked::Passed => ceiling_rule(ceiling),
         },
     }
 }

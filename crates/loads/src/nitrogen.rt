@@ -1,6 +1,7 @@
 // The part of nitrogen that is not denitrified, and the acceptable leaching.
 ghost use mathlib.Core.Path.{_≡_};
 ghost use Prim.Native.Nat.{_*_, _/_, _≤_};
+ghost use Rattle.site.specs.Ranges.{percolationRange, leachateRange};
 ghost use Rattle.loads.specs.Most.{mostL};
 ghost use Rattle.loads.specs.Nitrogen.{denitrified, retainedOf};
 ghost use Rattle.loads.specs.SiteTerms.{termsOf};
@@ -38,7 +39,7 @@ pub fn retained_at(s: Site) -> u64
 
 // L
 pub fn leaching_of(q: u64, c: u64) -> u64
-    requires { ⌜ (q ≤ 3000) × (c ≤ 1000) ⌝ }
+    requires { ⌜ (q ≤ percolationRange .most) × (c ≤ leachateRange .most) ⌝ }
     ensures { λ r. ⌜ (r ≡ q * c / 100) × (r ≤ mostL) ⌝ }
 {
     q * c / 100

@@ -4,6 +4,7 @@ ghost use mathlib.Core.List.{[]};
 ghost use Prim.Native.Nat.{_≤_};
 ghost use lib.ListN.{getD};
 ghost use Rattle.site.specs.Bounds.{EntryBounds, StandBounds};
+ghost use Rattle.site.specs.Ranges.{percolationRange};
 ghost use Rattle.loads.specs.Uptake.{speciesTable, baseUptakeOf};
 ghost use Rattle.loads.specs.Conditions.{Weighed, Summed};
 use crate::widen::index8;
@@ -70,7 +71,7 @@ pub fn stand_sums(stand: [Entry; 4], entries: usize) -> Sums
 
 // Bu: supply is B + w
 pub fn base_uptake(demand: u64, supply: u64, q: u64) -> u64
-    requires { ⌜ q ≤ 3000 ⌝ }
+    requires { ⌜ q ≤ percolationRange .most ⌝ }
     ensures { λ r. ⌜ (r ≡ baseUptakeOf demand supply q) × (r ≤ supply) ⌝ }
 {
     let least = (q + 9) / 10;

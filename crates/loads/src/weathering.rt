@@ -1,6 +1,7 @@
 // Weathering W and its available part w.
 ghost use mathlib.Core.Path.{_≡_};
 ghost use Prim.Native.Nat.{_*_, _/_, _≤_};
+ghost use Rattle.site.specs.Ranges.{availableRange};
 ghost use Rattle.loads.specs.Most.{mostWeathering};
 ghost use Rattle.loads.specs.Weathering.{classOf, weatheringOf};
 ghost use Rattle.loads.specs.Texture.{textureOf};
@@ -38,7 +39,7 @@ pub fn weathering_of(parent: u8, clay: u8, sand: u8, depth: u8) -> u64
 }
 
 pub fn available_of(weathered: u64, share: u64) -> u64
-    requires { ⌜ (weathered ≤ mostWeathering) × (share ≤ 85) ⌝ }
+    requires { ⌜ (weathered ≤ mostWeathering) × (share ≤ availableRange .most) ⌝ }
     ensures { λ r. ⌜ (r ≡ weathered * share / 100) × (r ≤ weathered) ⌝ }
 {
     weathered * share / 100

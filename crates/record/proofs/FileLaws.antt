@@ -8,6 +8,7 @@ use borrow.Author.Tests.{le-leb, lt-leb, leb-true, leb-false}
 use lib.Dec.{leb}
 use lib.ListN.{length, take, drop, length-take, length-drop, length-append, drop-of-length-le, take-append-drop}
 use lib.Seq.{drop-drop, drop-at}
+use Rattle.site.specs.Ranges.{mostRecords}
 use Rattle.site.specs.Choice.{pick}
 use Rattle.site.specs.declared.Rule.the-variants.{NoBytes, TooMany}
 use Rattle.record.specs.Result.{Result, good, fault}
@@ -35,7 +36,7 @@ module _ {A : Type 0} (read : ℕ → Result (A × ℕ)) (len : ℕ) where
   unfolding contentsBy
   contents-none h = rw (le-leb len 0 h)
 
-  pub contents-some : 0 < len → contentsBy read len ≡ walkFile read len 500 0
+  pub contents-some : 0 < len → contentsBy read len ≡ walkFile read len mostRecords 0
   unfolding contentsBy
   contents-some h = rw (lt-leb len 0 h)
 
@@ -77,19 +78,19 @@ module _ {A : Type 0} (read : ℕ → Result (A × ℕ)) (len : ℕ) where
       let o = onto-good (read at) (λ after. walkFile read len n after) xs q in
       subst (P (suc n) at) (sym (o .is)) (more n at (o .found) (o .rest) (leb-false len at t) (o .reads) (walk-by P end more n (o .found .1) (o .rest) (o .goes-on))))
 
-  pub contents-walked : (xs : List A) → contentsBy read len ≡ good xs → walkFile read len 500 0 ≡ good xs
+  pub contents-walked : (xs : List A) → contentsBy read len ≡ good xs → walkFile read len mostRecords 0 ≡ good xs
   unfolding contentsBy
   contents-walked xs e = go (leb len 0) e
     where
-      go : (b : Bool) → pick b (fault NoBytes 0) (walkFile read len 500 0) ≡ good xs → walkFile read len 500 0 ≡ good xs
+      go : (b : Bool) → pick b (fault NoBytes 0) (walkFile read len mostRecords 0) ≡ good xs → walkFile read len mostRecords 0 ≡ good xs
       go true e = not-good e
       go false e = e
 
   -- what each record that is read has, all values have that a file holds; they are at most 500
   pub contents-every : (P : A → Type 0) → ((at : ℕ) (x : A × ℕ) → read at ≡ good x → P (x .0))
-      → (xs : List A) → contentsBy read len ≡ good xs → (length xs ≤ 500) × All P xs
+      → (xs : List A) → contentsBy read len ≡ good xs → (length xs ≤ mostRecords) × All P xs
   contents-every P each xs e =
-      walk-by (λ n at xs. (length xs ≤ n) × All P xs) (λ n at h. (omega arith, none)) (λ n at x xs h r p. (omega (arith, p .0), each at x r ▸ p .1)) 500 0 xs (contents-walked xs e)
+      walk-by (λ n at xs. (length xs ≤ n) × All P xs) (λ n at h. (omega arith, none)) (λ n at x xs h r p. (omega (arith, p .0), each at x r ▸ p .1)) mostRecords 0 xs (contents-walked xs e)
 
 -- ---- files that go on past what the walk looks at
 
@@ -120,9 +121,9 @@ module _ {A : Type 0} (read : List ℕ → ℕ → Result (A × ℕ)) (w : ℕ) 
       rw (leb-take at m f (omega arith), local m at f (omega arith), same)
 
   -- 500 records, and a byte more
-  pub contents-more : (f : List ℕ) (m : ℕ) → w * 500 + 1 ≤ m → contentsBy (read (take m f)) (length (take m f)) ≡ contentsBy (read f) (length f)
+  pub contents-more : (f : List ℕ) (m : ℕ) → w * mostRecords + 1 ≤ m → contentsBy (read (take m f)) (length (take m f)) ≡ contentsBy (read f) (length f)
   unfolding contentsBy
-  contents-more f m h = rw (leb-take 0 m f (omega arith), walk-take f m 500 0 (omega arith))
+  contents-more f m h = rw (leb-take 0 m f (omega arith), walk-take f m mostRecords 0 (omega arith))
 
 -- ---- what was read is written: the file is the records of its values, one after another
 
@@ -138,7 +139,7 @@ module _ {A : Type 0} (read : ℕ → Result (A × ℕ)) (encode : A → List �
       let k : at + (x .1 - at) ≡ x .1 = omega (arith, b .0) in
       let d : drop (x .1 - at) (drop at f) ≡ drop (x .1) f = rw (drop-drop, k) in
       sym (rw (b .1, sym p, sym d) (take-append-drop (x .1 - at) (drop at f))))
-      500 0 xs (contents-walked read (length f) xs e)
+      mostRecords 0 xs (contents-walked read (length f) xs e)
 
 -- ---- what was written is read: 1 to 500 values, encoded one after another
 
@@ -156,10 +157,10 @@ module _ {A : Type 0} (read : List ℕ → ℕ → Result (A × ℕ)) (encode : 
       let d : drop (at + length (encode x)) f ≡ rest = sym (drop-drop (length (encode x)) at f) ∙ rw e (drop-at (encode x) rest (length (encode x)) refl) in
       rw (walk-step (read f) (length f) n at (omega (arith, length-drop at f, some x)), reads x p f at rest e, walk-read f xs ps n (at + length (encode x)) (omega arith) d)
 
-  pub contents-read : (xs : List A) → All Ok xs → 1 ≤ length xs → length xs ≤ 500
+  pub contents-read : (xs : List A) → All Ok xs → 1 ≤ length xs → length xs ≤ mostRecords
       → contentsBy (read (encodeAll encode xs)) (length (encodeAll encode xs)) ≡ good (map clean xs)
   unfolding encodeAll
   contents-read [] ps h l = absurd (omega arith)
   contents-read (x ∷ xs) ps h l =
       let f = encode x ++ encodeAll encode xs in
-      contents-some (read f) (length f) (simp length-append (omega (arith, some x))) ∙ walk-read f (x ∷ xs) ps 500 0 l refl
+      contents-some (read f) (length f) (simp length-append (omega (arith, some x))) ∙ walk-read f (x ∷ xs) ps mostRecords 0 l refl

@@ -4,6 +4,7 @@ use mathlib.Core.Path.{_≡_, sym, _∙_}
 use mathlib.Core.List.{List, map}
 use native.Mathlib.Omega.{arith}
 use lib.ListN.{length, take}
+use Rattle.site.specs.Ranges.{mostRecords}
 use Rattle.site.specs.declared.Site.{Site}
 use Rattle.site.specs.declared.Rule.the-variants.{NoBytes}
 use Rattle.site.specs.declared.Checked.the-variants.{Passed}
@@ -25,12 +26,12 @@ module _ (f : List ℕ) where
   unfolding contents
   sites-none h = contents-none (siteAt f) (length f) h
 
-  pub sites-some : 0 < length f → contents f ≡ walkFile (siteAt f) (length f) 500 0
+  pub sites-some : 0 < length f → contents f ≡ walkFile (siteAt f) (length f) mostRecords 0
   unfolding contents
   sites-some h = contents-some (siteAt f) (length f) h
 
   -- the sites of a file that passes: at most 500, and each passes the check
-  pub sites-checked : (ss : List Site) → contents f ≡ good ss → (length ss ≤ 500) × All (λ s. siteRule s ≡ Passed) ss
+  pub sites-checked : (ss : List Site) → contents f ≡ good ss → (length ss ≤ mostRecords) × All (λ s. siteRule s ≡ Passed) ss
   unfolding contents
   sites-checked ss e = contents-every (siteAt f) (length f) (λ s. siteRule s ≡ Passed) (λ at x r. site-passes f at r) ss e
 
@@ -44,7 +45,7 @@ module _ (f : List ℕ) where
   sites-written b ss e = contents-written (siteAt f) encode f (λ at x r. (omega (arith, site-after f at r), site-bytes f at r b)) ss e
 
 -- 1 to 500 sites that pass, encoded one after another, are read back, with zeros past their names and entries
-pub sites-read : (ss : List Site) → All (λ s. Sized s × (siteRule s ≡ Passed)) ss → 1 ≤ length ss → length ss ≤ 500
+pub sites-read : (ss : List Site) → All (λ s. Sized s × (siteRule s ≡ Passed)) ss → 1 ≤ length ss → length ss ≤ mostRecords
     → contents (encodeAll encode ss) ≡ good (map clean ss)
 unfolding contents siteAt
 sites-read ss ok h l =

@@ -3,6 +3,7 @@ use Prim.Native.Nat.{ℕ, zero, suc, _+_, _*_}
 use mathlib.Core.List.{List, [], _∷_, _++_}
 use lib.Dec.{leb}
 use lib.ListN.{length}
+use Rattle.site.specs.Ranges.{mostRecords}
 use Rattle.site.specs.Choice.{pick}
 use Rattle.site.specs.declared.Site.{Site}
 use Rattle.site.specs.declared.Rule.the-variants.{NoBytes, TooMany}
@@ -34,11 +35,11 @@ walkFile read len (suc n) at =
 
 -- a file: 1 to 500 records
 unfoldable pub contentsBy : {A : Type 0} → (ℕ → Result (A × ℕ)) → ℕ → Contents A
-contentsBy read len = pick (leb len 0) (fault NoBytes 0) (walkFile read len 500 0)
+contentsBy read len = pick (leb len 0) (fault NoBytes 0) (walkFile read len mostRecords 0)
 
 -- the bytes of a file that are looked at: 500 records, and one more; 129001
 abbrev pub mostFile : ℕ
-mostFile = 500 * mostRecord + 1
+mostFile = mostRecords * mostRecord + 1
 
 -- a file of site records
 unfoldable pub contents : List ℕ → Contents Site

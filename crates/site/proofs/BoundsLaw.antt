@@ -15,9 +15,10 @@ use Rattle.site.specs.declared.Rule.the-variants.{OutOfRange}
 use Rattle.site.specs.declared.Checked.the-variants.{Passed}
 use Rattle.site.specs.Bounds.{noEntry, EntryBounds, StandBounds, Bounds}
 use Rattle.site.specs.Check.{siteRule}
-use Rattle.site.specs.Values.{due, countRule, itemCount, valueRule, standRule, entryRanged, allOf}
+use Rattle.site.specs.Ranges.{parentRange, mostTexture, depthRange, drainageRange, percolationRange, speciesRange, shareRange, yieldRange, immobilisationRange, availableRange, baseDepositionRange, ratioRange, gibbsiteRange, ceilingRange, leachateRange}
+use Rattle.site.specs.Values.{due, countRule, itemCount, valueRule, standRule, entryRanged, allOf, inside}
 use Rattle.site.proofs.Tests.{le-or-lt, and-l, and-r}
-use Rattle.site.proofs.Passing.{pass-then, ranged-passed, between-passed}
+use Rattle.site.proofs.Passing.{pass-then, ranged-passed, inside-both, between-passed}
 use Rattle.site.proofs.PartLaws.{all-at}
 use Rattle.site.proofs.LengthLaws.{count-parts}
 use Rattle.site.proofs.FieldLaws.{site-passed}
@@ -25,15 +26,14 @@ use Rattle.site.proofs.FieldLaws.{site-passed}
 entry-bounds : (e : Entry) → entryRanged e ≡ true → EntryBounds e
 unfolding entryRanged
 entry-bounds e p =
-    let a = leb (e .species) 8 in
-    let b = leb 1 (e .share) in
-    let c = leb (e .share) 100 in
-    let d = leb (e .«yield_kg») 20000 in
-    let abc = and-l (a && b && c) d p in
+    let species = leb (e .species) (speciesRange .most) in
+    let share = inside shareRange (e .share) in
+    let yielded = leb (e .«yield_kg») (yieldRange .most) in
+    let both = and-l (species && share) yielded p in
     record {
-      species = leb-true (e .species) 8 (and-l a b (and-l (a && b) c abc));
-      share = leb-true (e .share) 100 (and-r (a && b) c abc);
-      yielded = leb-true (e .«yield_kg») 20000 (and-r (a && b && c) d p);
+      species = leb-true (e .species) (speciesRange .most) (and-l species share both);
+      share = inside-both shareRange (e .share) (and-r species share both) .1;
+      yielded = leb-true (e .«yield_kg») (yieldRange .most) (and-r (species && share) yielded p);
     }
 
 no-entry-bounds : EntryBounds noEntry
@@ -64,17 +64,17 @@ module _ (s : Site) (e : siteRule s ≡ Passed) where
   pub bounds : Bounds s
   unfolding valueRule
   bounds = record {
-    parent = between-passed 0 4 (s .parent) (value-at 1 (omega arith)) .1;
-    texture = leb-true ((s .clay) + s .sand) 100 (ranged-passed _ (value-at 2 (omega arith)));
-    depth = between-passed 1 200 (s .depth) (value-at 3 (omega arith)) .1;
-    drainage = between-passed 0 5 (s .drainage) (value-at 4 (omega arith)) .1;
-    percolation = between-passed 1 3000 (s .percolation) (value-at 5 (omega arith)) .1;
+    parent = between-passed parentRange (s .parent) (value-at 1 (omega arith)) .1;
+    texture = leb-true ((s .clay) + s .sand) mostTexture (ranged-passed _ (value-at 2 (omega arith)));
+    depth = between-passed depthRange (s .depth) (value-at 3 (omega arith)) .1;
+    drainage = between-passed drainageRange (s .drainage) (value-at 4 (omega arith)) .1;
+    percolation = between-passed percolationRange (s .percolation) (value-at 5 (omega arith)) .1;
     stand = stand-bounds s (site-passed s e 6 (omega arith) .0) (value-at 6 (omega arith));
-    immobilisation = between-passed 0 500 (s .immobilisation) (value-at 7 (omega arith)) .1;
-    available = between-passed 70 85 (s .available) (value-at 8 (omega arith)) .1;
-    deposition = between-passed 0 5000 (s .«base_deposition») (value-at 9 (omega arith)) .1;
-    ratio = between-passed 100 20000 (s .ratio) (value-at 10 (omega arith)) .0;
-    gibbsite = between-passed 1 10000 (s .gibbsite) (value-at 11 (omega arith)) .1;
-    ceiling = between-passed 1 5000 (s .ceiling) (value-at 12 (omega arith)) .1;
-    leachate = between-passed 1 1000 (s .leachate) (value-at 13 (omega arith)) .1;
+    immobilisation = between-passed immobilisationRange (s .immobilisation) (value-at 7 (omega arith)) .1;
+    available = between-passed availableRange (s .available) (value-at 8 (omega arith)) .1;
+    deposition = between-passed baseDepositionRange (s .«base_deposition») (value-at 9 (omega arith)) .1;
+    ratio = between-passed ratioRange (s .ratio) (value-at 10 (omega arith)) .0;
+    gibbsite = between-passed gibbsiteRange (s .gibbsite) (value-at 11 (omega arith)) .1;
+    ceiling = between-passed ceilingRange (s .ceiling) (value-at 12 (omega arith)) .1;
+    leachate = between-passed leachateRange (s .leachate) (value-at 13 (omega arith)) .1;
   }

@@ -11,7 +11,8 @@ use Rattle.site.specs.declared.Checked.{Checked}
 use Rattle.site.specs.declared.Checked.the-variants.{Passed, Broken}
 use Rattle.site.specs.Choice.{pick}
 use Rattle.site.specs.Refusal.{andThen, checkedNumber}
-use Rattle.site.specs.Values.{ranged, between}
+use Rattle.site.specs.Ranges.{Range}
+use Rattle.site.specs.Values.{ranged, inside, between}
 use Rattle.site.proofs.Tests.{and-l, and-r}
 
 pub clash : (r : Rule) → Broken r ≡ Passed → ⊥
@@ -33,11 +34,15 @@ both-passed (Broken r) b e = absurd (clash r e)
 pub ranged-passed : (b : Bool) → ranged b ≡ Passed → b ≡ true
 ranged-passed b e = pass-then b OutOfRange Passed e .0
 
-pub between-passed : (lo hi x : ℕ) → between lo hi x ≡ Passed → (lo ≤ x) × (x ≤ hi)
+pub inside-both : (r : Range) (x : ℕ) → inside r x ≡ true → (r .least ≤ x) × (x ≤ r .most)
+inside-both r x h =
+    let from = leb (r .least) x in
+    let to = leb x (r .most) in
+    (leb-true (r .least) x (and-l from to h), leb-true x (r .most) (and-r from to h))
+
+pub between-passed : (r : Range) (x : ℕ) → between r x ≡ Passed → (r .least ≤ x) × (x ≤ r .most)
 unfolding between
-between-passed lo hi x e =
-    let h = ranged-passed _ e in
-    (leb-true lo x (and-l (leb lo x) (leb x hi) h), leb-true x hi (and-r (leb lo x) (leb x hi) h))
+between-passed r x e = inside-both r x (ranged-passed _ e)
 
 -- an answer, and its number
 pub with-number : (a b : Checked) → a ≡ b → (a ≡ b) × (checkedNumber a ≡ checkedNumber b)

@@ -5,6 +5,7 @@ use mathlib.Core.List.{List, [], _∷_}
 use lib.Dec.{leb, eqb}
 use lib.ListN.{getD, take}
 use Rattle.site.specs.Choice.{pick}
+use Rattle.site.specs.Ranges.{Range, mostName, parentRange, mostTexture, depthRange, drainageRange, percolationRange, mostEntries, speciesRange, shareRange, yieldRange, immobilisationRange, availableRange, baseDepositionRange, ratioRange, gibbsiteRange, ceilingRange, leachateRange}
 use Rattle.site.specs.declared.Site.{Site}
 use Rattle.site.specs.declared.Entry.{Entry}
 use Rattle.site.specs.declared.Rule.the-variants.{BadLength, OutOfRange, NotRising, SharesNotWhole}
@@ -21,7 +22,7 @@ abbrev pub itemWidths : List ℕ
 itemWidths = 1 ∷ 1 ∷ 1 ∷ 2 ∷ 1 ∷ 1 ∷ 2 ∷ 4 ∷ 2 ∷ 1 ∷ 2 ∷ 2 ∷ 2 ∷ 2 ∷ 2 ∷ 4 ∷ []
 
 abbrev pub mostItems : List ℕ
-mostItems = 0 ∷ 8 ∷ 1 ∷ 1 ∷ 1 ∷ 1 ∷ 1 ∷ 4 ∷ 1 ∷ 1 ∷ 1 ∷ 1 ∷ 1 ∷ 1 ∷ 1 ∷ 1 ∷ []
+mostItems = 0 ∷ mostName ∷ 1 ∷ 1 ∷ 1 ∷ 1 ∷ 1 ∷ mostEntries ∷ 1 ∷ 1 ∷ 1 ∷ 1 ∷ 1 ∷ 1 ∷ 1 ∷ 1 ∷ []
 
 -- rule 7 for n bytes: a whole number of items, at least one
 unfoldable pub lengthPermitted : ℕ → ℕ → Bool
@@ -47,11 +48,14 @@ allOf f (x ∷ xs) = f x && allOf f xs
 abbrev pub ranged : Bool → Checked
 ranged b = pick b Passed (Broken OutOfRange)
 
-unfoldable pub between : ℕ → ℕ → ℕ → Checked
-between lo hi x = ranged (leb lo x && leb x hi)
+abbrev pub inside : Range → ℕ → Bool
+inside r x = leb (r .least) x && leb x (r .most)
+
+unfoldable pub between : Range → ℕ → Checked
+between r x = ranged (inside r x)
 
 unfoldable pub entryRanged : Entry → Bool
-entryRanged e = leb (e .species) 8 && leb 1 (e .share) && leb (e .share) 100 && leb (e .«yield_kg») 20000
+entryRanged e = leb (e .species) (speciesRange .most) && inside shareRange (e .share) && leb (e .«yield_kg») (yieldRange .most)
 
 -- species rise strictly, the first at least lo
 unfoldable pub risingFrom : ℕ → List Entry → Bool
@@ -77,18 +81,18 @@ valueRule t s =
     getD
     (Passed
     ∷ ranged (allOf nameByte (take (s .«name_len») (s .name)))
-    ∷ between 0 4 (s .parent)
-    ∷ ranged (leb ((s .clay) + s .sand) 100)
-    ∷ between 1 200 (s .depth)
-    ∷ between 0 5 (s .drainage)
-    ∷ between 1 3000 (s .percolation)
+    ∷ between parentRange (s .parent)
+    ∷ ranged (leb ((s .clay) + s .sand) mostTexture)
+    ∷ between depthRange (s .depth)
+    ∷ between drainageRange (s .drainage)
+    ∷ between percolationRange (s .percolation)
     ∷ standRule (take (s .entries) (s .stand))
-    ∷ between 0 500 (s .immobilisation)
-    ∷ between 70 85 (s .available)
-    ∷ between 0 5000 (s .«base_deposition»)
-    ∷ between 100 20000 (s .ratio)
-    ∷ between 1 10000 (s .gibbsite)
-    ∷ between 1 5000 (s .ceiling)
-    ∷ between 1 1000 (s .leachate)
+    ∷ between immobilisationRange (s .immobilisation)
+    ∷ between availableRange (s .available)
+    ∷ between baseDepositionRange (s .«base_deposition»)
+    ∷ between ratioRange (s .ratio)
+    ∷ between gibbsiteRange (s .gibbsite)
+    ∷ between ceilingRange (s .ceiling)
+    ∷ between leachateRange (s .leachate)
     ∷ [])
     t Passed

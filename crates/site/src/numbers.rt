@@ -22,7 +22,7 @@ pub fn in_range(ok: bool) -> Checked
 }
 
 pub fn word_between(lo: u16, hi: u16, x: u16) -> Checked
-    ensures { λ r. ⌜ r ≡ between lo hi x ⌝ }
+    ensures { λ r. ⌜ r ≡ between (record { least = lo; most = hi }) x ⌝ }
 {
     if x < lo {
         return Checked::Broken(Rule::OutOfRange);
@@ -31,7 +31,7 @@ pub fn word_between(lo: u16, hi: u16, x: u16) -> Checked
 }
 
 pub fn byte_between(lo: u8, hi: u8, x: u8) -> Checked
-    ensures { λ r. ⌜ r ≡ between lo hi x ⌝ }
+    ensures { λ r. ⌜ r ≡ between (record { least = lo; most = hi }) x ⌝ }
 {
     word_between(lo as u16, hi as u16, x as u16)
 }

@@ -5,6 +5,7 @@ use mathlib.Core.List.{List, [], _∷_}
 use native.Mathlib.Omega.{arith}
 use native.Mathlib.Nat.{mul-suc}
 use lib.ListN.{length, getD, length-append}
+use Rattle.site.specs.Ranges.{mostRecords}
 use Rattle.judgement.specs.declared.Verdict.{Verdict}
 use Rattle.judgement.specs.declared.Verdict.the-variants.{Within, Over}
 use Rattle.text.specs.declared.Row.{Row}
@@ -50,6 +51,6 @@ line-most r w =
     omega (arith, w .name, length-line r, mark-most (r .verdict), seven r)
 
 -- the listing of a file
-pub listing-most : (rs : List Row) → length rs ≤ 500 → ((k : ℕ) → k < length rs → Narrow (getD rs k noRow)) → length (listing rs) ≤ mostText
+pub listing-most : (rs : List Row) → length rs ≤ mostRecords → ((k : ℕ) → k < length rs → Narrow (getD rs k noRow)) → length (listing rs) ≤ mostText
 listing-most rs n w =
     omega (arith, length-listing rs, each-most line mostLine noRow rs (λ k l. line-most (getD rs k noRow) (w k l)))

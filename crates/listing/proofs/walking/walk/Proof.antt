@@ -5,6 +5,7 @@ use native.Mathlib.Omega.{arith}
 use borrow.Author.Needs.{needs}
 use denote.Ref.{now}
 use lib.ListN.{length, length-set}
+use Rattle.site.specs.Ranges.{mostRecords}
 use Rattle.record.specs.File.{contents}
 use Rattle.listing.specs.Rows.{padded}
 use Rattle.record.proofs.SiteFile.{sites-none}
@@ -13,7 +14,7 @@ use Rattle.listing.proofs.walking.walk.Statement.{statement}
 use Rattle.listing.proofs.walking.walk.Tie as tie
 
 abbrev Inv-loop : tie.InvT-loop
-Inv-loop file rows₀ count₀ at₀ rows count at = (at ≤ length file) × (count ≤ 500) × (length rows ≡ 500) × So file rows count at
+Inv-loop file rows₀ count₀ at₀ rows count at = (at ≤ length file) × (count ≤ mostRecords) × (length rows ≡ mostRecords) × So file rows count at
 
 abbrev μ-loop : tie.MeasureT-loop
 μ-loop file rows₀ count₀ at₀ rows count at = length file - at
