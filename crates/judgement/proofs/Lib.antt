@@ -5,4 +5,4 @@ pub mod Least
 pub mod Demand3
 pub mod Monotone
 pub mod AtSites
-pub mod AnswerLaws
+pub mod JudgementAnswers

@@ -2,10 +2,9 @@
 use Prim.Native.Nat.{ℕ}
 use mathlib.Core.List.{List, [], _∷_, _++_}
 use Rattle.site.specs.declared.Site.{Site}
-use Rattle.site.specs.declared.Checked.{Checked}
-use Rattle.site.specs.declared.Checked.the-variants.{Passed, Broken}
 use Rattle.site.specs.Refusal.{ruleNumber}
 use Rattle.site.specs.Check.{siteRule}
+use Rattle.site.specs.ByCheck.{answerIf}
 use Rattle.loads.specs.Terms.{Terms}
 use Rattle.loads.specs.SiteTerms.{termsOf}
 use Rattle.loads.specs.CriticalLoads.{maxS, minN, maxN, nutN, loadsOf}
@@ -19,12 +18,8 @@ use Rattle.judgement.specs.Verdicts.{region, acidExceedance, nutrientExc
 unfoldable pub judgedOf : Site → Judged
 judgedOf s = record { loads = loadsOf (termsOf s); verdict = verdict (termsOf s) (s .sulphur) (s .nitrogen) }
 
-unfoldable pub judgementIf : Checked → Judged → JudgementAnswer
-judgementIf Passed j = Given j
-judgementIf (Broken r) j = Refused r
-
 unfoldable pub judgementAnswer : Site → JudgementAnswer
-judgementAnswer s = judgementIf (siteRule s) (judgedOf s)
+judgementAnswer s = answerIf Given Refused (siteRule s) (judgedOf s)
 
 -- the values of each case: the loads, region and exceedances, and the word's bytes; or the refusal's number and offset
 unfoldable pub judgedValues : Judged → List ℕ

@@ -22,6 +22,7 @@ use loads::LoadsAnswer;
 use loads::critical_loads;
 use loads::retained_at;
 use site::Site;
+use site::wide16;
 
 // Within needs region 0 and nutrient exceedance 0.
 fn verdict_from(region: Region, acid: u64, nutrient: u64) -> Verdict
@@ -44,19 +45,13 @@ fn verdict_from(region: Region, acid: u64, nutrient: u64) -> Verdict
     Verdict::Within
 }
 
-fn wide(x: u16) -> u64
-    ensures { λ r. ⌜ (r ≡ x) × (r ≤ 65535) ⌝ }
-{
-    x as u64
-}
-
 // The verdict on the pair s, n from the loads and e.
 fn verdict_at(l: Loads, e: u64, s: u16, n: u16) -> Verdict
     requires { ⌜ (l .«max_s» ≤ mostMaxS) × (1 ≤ e) × (e ≤ 1000) ⌝ }
     ensures { λ r. ⌜ r ≡ verdictOf (regionOf s n (l .«max_s») (l .«min_n») e) (acidOf s n (l .«max_s») (l .«min_n») e) (n - l .«nut_n») ⌝ }
 {
-    let sulphur = wide(s);
-    let nitrogen = wide(n);
+    let sulphur = wide16(s);
+    let nitrogen = wide16(n);
     let c = l.max_s;
     let m = l.min_n;
     let region = region_of(sulphur, nitrogen, c, m, e);

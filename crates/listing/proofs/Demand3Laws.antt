@@ -14,7 +14,7 @@ use Rattle.site.proofs.Passing.{ranged-passed}
 use Rattle.site.proofs.FieldLaws.{site-passed}
 use Rattle.judgement.specs.Balance.{Says}
 use Rattle.judgement.specs.Verdicts.{verdictWord}
-use Rattle.judgement.proofs.AnswerLaws.{judged-says}
+use Rattle.judgement.proofs.JudgementAnswers.{judged-says}
 use Rattle.field.specs.Field.{blankSite}
 use Rattle.text.specs.Line.{noRow, nameText}
 use Rattle.text.specs.Listing.{listing}

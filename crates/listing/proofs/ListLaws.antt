@@ -16,7 +16,7 @@ use Rattle.text.specs.Refusal.{refusal}
 use Rattle.output.specs.Output.{heldNumbers, held}
 use Rattle.text.specs.Answer.{listedNumbers, answer, Enough}
 use Rattle.text.specs.Marks.{Marked}
-use Rattle.text.proofs.AnswerLaws.{Answered, written}
+use Rattle.text.proofs.TextAnswers.{Answered, written}
 use Rattle.listing.specs.declared.Walked.{Walked}
 use Rattle.record.specs.Result.{good, fault}
 use Rattle.record.specs.File.{Contents, contents}

@@ -12,7 +12,7 @@ use Rattle.text.specs.declared.Listed.the-variants.{Bytes, Refused}
 use Rattle.text.specs.Most.{mostText}
 use Rattle.output.specs.Output.{roomRule, heldAfter, outputCount, held}
 use Rattle.text.specs.Answer.{listedOf}
-use Rattle.text.proofs.AnswerLaws.{Answered, written}
+use Rattle.text.proofs.TextAnswers.{Answered, written}
 use Rattle.listing.specs.Listing.{shownLength}
 
 -- the clauses of the call that says how many

@@ -11,7 +11,7 @@ use Rattle.judgement.specs.declared.Judged.{Judged}
 use Rattle.judgement.specs.declared.JudgementAnswer.{JudgementAnswer}
 use Rattle.judgement.specs.declared.JudgementAnswer.the-variants.{Given, Refused as NotJudged}
 use Rattle.judgement.specs.Answers.{judgedOf, judgementAnswer}
-use Rattle.judgement.proofs.AnswerLaws.{given}
+use Rattle.judgement.proofs.JudgementAnswers.{judged-passing}
 use Rattle.record.specs.declared.Outcome.{Outcome}
 use Rattle.record.specs.declared.Outcome.the-variants.{Accepted, Refused}
 use Rattle.record.specs.declared.Found.{Found}
@@ -33,7 +33,7 @@ module _ (f : List ℕ) (at : ℕ) (x : Found) (is : x ≡ recordAt f at) where
   -- a site that was read is judged
   pub judged : {a : JudgementAnswer} {rule : Rule} {P : Type 0} → x .outcome ≡ Accepted → a ≡ judgementAnswer (x .site) → a ≡ NotJudged rule → P
   judged e j n =
-      let g = given (x .site) (passes e) in
+      let g = judged-passing (x .site) (passes e) in
       let z : _≡_ {A = ℕ} 0 1 = cc in
       absurd (omega arith)
 
@@ -41,7 +41,7 @@ module _ (f : List ℕ) (at : ℕ) (x : Found) (is : x ≡ recordAt f at) where
       → record { outcome = Accepted; row = row; next = x .next } ≡ turnOf (recordAt f at)
   unfolding turnOf turnBy rowOf
   turn-accepted {a} {j} e d g r =
-      let h = given (x .site) (passes e) in
+      let h = judged-passing (x .site) (passes e) in
       let q : j ≡ judgedOf (x .site) = cc in
       rw (← is, e, r, q)
 

@@ -7,15 +7,16 @@ use native.Mathlib.Omega.{arith}
 use native.Mathlib.Nat.{mul-zero, one-mul, mul-le-mul, mul-le-mul-left, pow-suc, pow-zero, pow-le-pow-left, le-trans}
 use borrow.Author.Tests.{le-leb, lt-leb, leb-true}
 use lib.Dec.{leb}
-use Rattle.site.specs.declared.Checked.{Checked}
-use Rattle.site.specs.declared.Checked.the-variants.{Passed, Broken}
+use Rattle.site.specs.declared.Checked.the-variants.{Passed}
 use Rattle.site.specs.Refusal.{andThen, valuesIf}
 use Rattle.site.specs.Ranges.{ceilingRange, percolationRange, gibbsiteRange}
 use Rattle.site.specs.Values.{between}
 use Rattle.site.proofs.Passing.{both-passed, between-passed}
+use Rattle.site.proofs.ByCheckLaws.{values-by}
 use Rattle.loads.specs.declared.LevelAnswer.{LevelAnswer}
+use Rattle.loads.specs.declared.LevelAnswer.the-variants.{Greatest, Refused}
 use Rattle.loads.specs.Conditions.{Levels}
-use Rattle.loads.specs.Hydrogen.{hydrogenOf, alOf, levelOf, levelRule, levelIf, levelAnswer, levelValues}
+use Rattle.loads.specs.Hydrogen.{hydrogenOf, alOf, levelOf, levelRule, levelAnswer, levelValues}
 use Rattle.loads.proofs.GreatestLaws.{greatest-le, greatest-passes, greatest-most, greatest-unique}
 use Rattle.loads.proofs.Numbers.{div-mono}
 
@@ -99,13 +100,9 @@ level-passed q k ceiling e =
 
 -- all that the search promises, from its equation
 module _ (q k limit ceiling : ℕ) where
-  values-if : (c : Checked) → levelValues (levelIf c (levelOf q k limit ceiling)) ≡ valuesIf c (levelOf q k limit ceiling ∷ [])
-  unfolding levelValues levelIf valuesIf
-  values-if Passed = refl
-  values-if (Broken r) = refl
-
-  pub whole :
+  pub level-promise :
       (r : LevelAnswer) → r ≡ levelAnswer q k limit ceiling
       → (r ≡ levelAnswer q k limit ceiling) × (levelValues r ≡ valuesIf (levelRule q k ceiling) (levelOf q k limit ceiling ∷ []))
-  unfolding levelAnswer
-  whole r is = (is, ap levelValues is ∙ values-if (levelRule q k ceiling))
+  unfolding levelAnswer levelValues
+  level-promise r is =
+      (is, ap levelValues is ∙ values-by Greatest Refused levelValues (λ h. h ∷ []) (λ h. refl) (λ r. refl) (levelRule q k ceiling) (levelOf q k limit ceiling))

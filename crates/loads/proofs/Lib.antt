@@ -7,4 +7,4 @@ pub mod LevelLaws
 pub mod TermLaws
 pub mod SiteTermLaws
 pub mod OneSiteLaws
-pub mod AnswerLaws
+pub mod LoadsAnswers

@@ -3,10 +3,9 @@
 use Prim.Native.Nat.{ℕ, _+_, _*_, _/_}
 use mathlib.Core.List.{List, [], _∷_}
 use Rattle.site.specs.declared.Site.{Site}
-use Rattle.site.specs.declared.Checked.{Checked}
-use Rattle.site.specs.declared.Checked.the-variants.{Passed, Broken}
 use Rattle.site.specs.Refusal.{ruleNumber}
 use Rattle.site.specs.Check.{siteRule}
+use Rattle.site.specs.ByCheck.{answerIf}
 use Rattle.loads.specs.declared.Loads.{Loads}
 use Rattle.loads.specs.declared.LoadsAnswer.{LoadsAnswer}
 use Rattle.loads.specs.declared.LoadsAnswer.the-variants.{Given, Refused}
@@ -33,12 +32,8 @@ nutN t = minN t + 1000 * t .L / t .e
 unfoldable pub loadsOf : Terms → Loads
 loadsOf t = record { «max_s» = maxS t; «min_n» = minN t; «max_n» = maxN t; «nut_n» = nutN t }
 
-unfoldable pub loadsIf : Checked → Loads → LoadsAnswer
-loadsIf Passed l = Given l
-loadsIf (Broken r) l = Refused r
-
 unfoldable pub loadsAnswer : Site → LoadsAnswer
-loadsAnswer s = loadsIf (siteRule s) (loadsOf (termsOf s))
+loadsAnswer s = answerIf Given Refused (siteRule s) (loadsOf (termsOf s))
 
 -- the values of each case: the loads, or the refusal's number and offset
 unfoldable pub loadsValues : LoadsAnswer → List ℕ

@@ -5,10 +5,10 @@ use mathlib.Core.List.{List, [], _∷_}
 use lib.Dec.{leb}
 use Rattle.site.specs.Choice.{pick}
 use Rattle.site.specs.Refusal.{ruleNumber, andThen}
+use Rattle.site.specs.ByCheck.{answerIf}
 use Rattle.site.specs.Ranges.{percolationRange, gibbsiteRange, ceilingRange}
 use Rattle.site.specs.Values.{between}
 use Rattle.site.specs.declared.Checked.{Checked}
-use Rattle.site.specs.declared.Checked.the-variants.{Passed, Broken}
 use Rattle.loads.specs.declared.LevelAnswer.{LevelAnswer}
 use Rattle.loads.specs.declared.LevelAnswer.the-variants.{Greatest, Refused}
 use Rattle.loads.specs.Terms.{Terms}
@@ -48,12 +48,8 @@ criticalLeaching t = hydrogen t (greatestLevel t) + aluminium t (greatestLevel t
 unfoldable pub levelRule : (q k ceiling : ℕ) → Checked
 levelRule q k ceiling = andThen (between percolationRange q) (andThen (between gibbsiteRange k) (between ceilingRange ceiling))
 
-unfoldable pub levelIf : Checked → ℕ → LevelAnswer
-levelIf Passed h = Greatest h
-levelIf (Broken r) h = Refused r
-
 unfoldable pub levelAnswer : (q k limit ceiling : ℕ) → LevelAnswer
-levelAnswer q k limit ceiling = levelIf (levelRule q k ceiling) (levelOf q k limit ceiling)
+levelAnswer q k limit ceiling = answerIf Greatest Refused (levelRule q k ceiling) (levelOf q k limit ceiling)
 
 -- the values of each case: the level, or the refusal's number and offset
 unfoldable pub levelValues : LevelAnswer → List ℕ

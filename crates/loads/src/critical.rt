@@ -20,12 +20,12 @@ use crate::uptake::base_uptake;
 use crate::uptake::stand_sums;
 use crate::weathering::available_of;
 use crate::weathering::weathering_of;
-use crate::widen::index8;
-use crate::widen::wide8;
-use crate::widen::wide16;
 use site::Checked;
 use site::Site;
 use site::check_site;
+use site::wide;
+use site::wide8;
+use site::wide16;
 
 // CLmaxS of plain numbers: W is weathered, w its available part
 fn acid_load(
@@ -84,7 +84,7 @@ fn loads_of(s: Site) -> Loads
     ensures { λ r. ⌜ r ≡ loadsOf (termsOf s) ⌝ }
 {
     let stand = s.stand;
-    let sums = stand_sums(stand, index8(s.entries));
+    let sums = stand_sums(stand, wide(s.entries));
     let demand = (sums.base + 9_999_999) / 10_000_000;
     let uptake = sums.nitrogen / 10_000_000;
     let min_n = uptake + wide16(s.immobilisation);

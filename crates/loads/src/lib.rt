@@ -5,7 +5,6 @@ mod nitrogen;
 mod texture;
 mod uptake;
 mod weathering;
-mod widen;
 
 pub use critical::critical_loads;
 pub use hydrogen::greatest_level;

@@ -5,9 +5,9 @@ ghost use Rattle.site.specs.Ranges.{percolationRange, leachateRange};
 ghost use Rattle.loads.specs.Most.{mostL};
 ghost use Rattle.loads.specs.Nitrogen.{denitrified, retainedOf};
 ghost use Rattle.loads.specs.SiteTerms.{termsOf};
-use crate::widen::index8;
-use crate::widen::wide16;
 use site::Site;
+use site::wide;
+use site::wide16;
 
 // d, per mille, by drainage.
 const DENITRIFIED: [u16; 6] = [0, 100, 200, 400, 700, 800];
@@ -23,7 +23,7 @@ fn denitrified_in(drainage: usize) -> u64
 fn retained_of(drainage: u8) -> u64
     ensures { λ r. ⌜ r ≡ retainedOf drainage ⌝ }
 {
-    let class = index8(drainage);
+    let class = wide(drainage);
     if 5 < class {
         return 1000;
     }

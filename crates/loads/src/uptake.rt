@@ -7,10 +7,10 @@ ghost use Rattle.site.specs.Bounds.{EntryBounds, StandBounds};
 ghost use Rattle.site.specs.Ranges.{percolationRange};
 ghost use Rattle.loads.specs.Uptake.{speciesTable, baseUptakeOf};
 ghost use Rattle.loads.specs.Conditions.{Weighed, Summed};
-use crate::widen::index8;
-use crate::widen::wide8;
-use crate::widen::wide16;
 use site::Entry;
+use site::wide;
+use site::wide8;
+use site::wide16;
 
 // The species table: Ca, Mg, K, N in hundredths of eq per tonne.
 const CONTENTS: [[u16; 4]; 9] = [
@@ -43,7 +43,7 @@ fn weighed(entry: Entry) -> Sums
     requires { ⌜ EntryBounds entry ⌝ }
     ensures { λ r. ⌜ Weighed entry (r .nitrogen) (r .base) ⌝ }
 {
-    let contents = contents_of(index8(entry.species));
+    let contents = contents_of(wide(entry.species));
     let yielded = wide8(entry.share) * wide16(entry.yield_kg);
     let base = wide16(contents[0]) + wide16(contents[1]) + wide16(contents[2]);
     Sums {

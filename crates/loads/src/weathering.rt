@@ -7,8 +7,8 @@ ghost use Rattle.loads.specs.Weathering.{classOf, weatheringOf};
 ghost use Rattle.loads.specs.Texture.{textureOf};
 use crate::texture::texture_of;
 use crate::texture::texture_place;
-use crate::widen::index8;
-use crate::widen::wide8;
+use site::wide;
+use site::wide8;
 
 // Class k by parent material 0 to 4 and texture 1 to 5.
 const CLASSES: [[u8; 5]; 5] = [
@@ -34,7 +34,7 @@ pub fn weathering_of(parent: u8, clay: u8, sand: u8, depth: u8) -> u64
     if parent == 0 {
         return 0;
     }
-    let k = class_of(index8(parent), clay, sand);
+    let k = class_of(wide(parent), clay, sand);
     (500 * k - 250) * wide8(depth) / 100
 }
 

@@ -6,3 +6,4 @@ pub mod StandLaws
 pub mod LengthLaws
 pub mod FieldLaws
 pub mod BoundsLaw
+pub mod ByCheckLaws

@@ -8,6 +8,7 @@ mod ranges;
 mod refusal;
 mod stand;
 mod value;
+mod widen;
 
 pub use bytes::byte;
 pub use bytes::word;
@@ -31,6 +32,8 @@ pub use ranges::ratio_rule;
 pub use ranges::texture_rule;
 pub use refusal::rule_number;
 pub use stand::stand_rule;
+pub use widen::wide8;
+pub use widen::wide16;
 
 // The tags 01 to 0F, in the order in which fields are due.
 pub const DUE: [u8; 15] = [1, 2, 3, 4, 5, 6, 7, 8, 9, 10, 11, 12, 13, 14, 15];

@@ -1,6 +1,6 @@
 pub mod DecimalLaws
 pub mod LineLaws
 pub mod FitLaws
-pub mod AnswerLaws
+pub mod TextAnswers
 pub mod WordLaws
 pub mod MarkLaws

@@ -19,7 +19,7 @@ use Rattle.output.specs.Output.{heldNumbers, held}
 use Rattle.text.specs.Answer.{listedNumbers, answer, Enough}
 use Rattle.text.specs.Words.{split, lastWord, lineAt, free}
 use Rattle.text.specs.Marks.{Plain, Marked}
-use Rattle.text.proofs.AnswerLaws.{Answered, written}
+use Rattle.text.proofs.TextAnswers.{Answered, written}
 use Rattle.text.proofs.WordLaws.{split-at, split-free, free-cons, free-append, free-decimal, free-each, lastWord-spaced}
 
 free-mark : (v : Verdict) → (free 10 (verdictWord v) ≡ true) × (free 32 (verdictWord v) ≡ true)

@@ -6,7 +6,7 @@ use Rattle.site.specs.declared.Rule.the-variants.{BadLength}
 use Rattle.site.specs.declared.Checked.the-variants.{Passed}
 use Rattle.loads.specs.CriticalLoads.{loadsOf}
 use Rattle.judgement.specs.Answers.{judgedOf}
-use Rattle.judgement.proofs.AnswerLaws.{judged, refused as Judgement·refused}
+use Rattle.judgement.proofs.JudgementAnswers.{judgement-given, judgement-refused}
 use Rattle.exports.specs.Layout.{siteIn, valueCheck, loadsNumbers, judgementNumbers}
 use Rattle.exports.proofs.ValueLaws.{wrong-length, as-site, refused, short, written, length-judged, with-marks}
 use Rattle.output.proofs.WriteLaws.{then}
@@ -36,7 +36,7 @@ judged-site :
     (valueCheck b ≡ Passed) × (c .before .judged .given .0 .0 ≡ judgedOf (siteIn b))
 judged-site c =
     let at = c .before .before .before in
-    let g = judged (at .before .site-in .result) _ (sym (at .judge .ensures .0) ∙ c .before .judged .given .1) in
+    let g = judgement-given (at .before .site-in .result) _ (sym (at .judge .ensures .0) ∙ c .before .judged .given .1) in
     (site-rule at ∙ g .0, g .1 ∙ rw (at .before .site-in .ensures))
 
 site-in-requires : tie.Need-site-in-requires
@@ -81,7 +81,7 @@ returns-3 c =
     let b = now (s .args .site) in
     rw (c .refused2 .ensures)
     (with-marks b (now (s .args .out)) _ (refused b _ 8 (judgementNumbers (siteIn b)) (now (s .args .out))
-    (site-rule at ∙ Judgement·refused (at .before .site-in .result) _ (sym (at .judge .ensures .0) ∙ c .before .before .rule .given .1))))
+    (site-rule at ∙ judgement-refused (at .before .site-in .result) _ (sym (at .judge .ensures .0) ∙ c .before .before .rule .given .1))))
 
 same-length : tie.Need-same-length
 same-length c = search needs

@@ -6,7 +6,7 @@ use Rattle.site.specs.declared.Rule.the-variants.{BadLength}
 use Rattle.site.specs.declared.Checked.the-variants.{Passed}
 use Rattle.loads.specs.SiteTerms.{termsOf}
 use Rattle.loads.specs.CriticalLoads.{loadsOf}
-use Rattle.loads.proofs.AnswerLaws.{given, refused as Loads·refused}
+use Rattle.loads.proofs.LoadsAnswers.{loads-given, loads-refused}
 use Rattle.exports.specs.Layout.{siteIn, valueCheck, loadsNumbers}
 use Rattle.exports.proofs.ValueLaws.{wrong-length, as-site, refused, short, written}
 use borrow.Author.Needs.{needs}
@@ -34,7 +34,7 @@ loaded :
     (valueCheck b ≡ Passed) × (c .before .l .given .0 .0 ≡ loadsOf (termsOf (siteIn b)))
 loaded c =
     let at = c .before .before .before in
-    let g = given (at .before .site-in .result) _ (sym (at .critical-loads .ensures .0) ∙ c .before .l .given .1) in
+    let g = loads-given (at .before .site-in .result) _ (sym (at .critical-loads .ensures .0) ∙ c .before .l .given .1) in
     (site-rule at ∙ g .0, g .1 ∙ rw (at .before .site-in .ensures))
 
 site-in-requires : tie.Need-site-in-requires
@@ -73,7 +73,7 @@ returns-3 c =
     let b = now (s .args .site) in
     rw (c .refused2 .ensures)
     (refused b _ 4 (loadsNumbers (siteIn b)) (now (s .args .out))
-    (site-rule at ∙ Loads·refused (at .before .site-in .result) _ (sym (at .critical-loads .ensures .0) ∙ c .before .before .rule .given .1)))
+    (site-rule at ∙ loads-refused (at .before .site-in .result) _ (sym (at .critical-loads .ensures .0) ∙ c .before .before .rule .given .1)))
 
 same-length : tie.Need-same-length
 same-length c = search needs

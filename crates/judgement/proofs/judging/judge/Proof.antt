@@ -1,16 +1,17 @@
 use Prim.Native.Nat.{_≤_}
 use mathlib.Core.Path.{_≡_, sym, _∙_}
 use Rattle.site.specs.Check.{siteRule}
+use Rattle.site.specs.ByCheck.{answerIf}
 use Rattle.site.specs.declared.Site.{Site}
 use Rattle.site.specs.declared.Checked.the-variants.{Passed}
 use Rattle.loads.specs.Most.{mostMaxS}
 use Rattle.loads.specs.SiteTerms.{termsOf}
 use Rattle.loads.specs.CriticalLoads.{loadsOf}
-use Rattle.loads.proofs.AnswerLaws.{given, refused}
+use Rattle.loads.proofs.LoadsAnswers.{loads-given, loads-refused}
 use Rattle.loads.proofs.TermLaws.{maxS-le}
-use Rattle.judgement.specs.Answers.{judgedOf, judgementIf, judgementAnswer}
+use Rattle.judgement.specs.Answers.{judgedOf, judgementAnswer}
 use Rattle.judgement.proofs.AtSites.{site-bounds}
-use Rattle.judgement.proofs.AnswerLaws.{whole, verdict-by-loads}
+use Rattle.judgement.proofs.JudgementAnswers.{judgement-promise, verdict-by-loads}
 use borrow.Author.Needs.{needs}
 use Rattle.judgement.proofs.judging.judge.Statement.{statement}
 use Rattle.judgement.proofs.judging.judge.Tie as tie
@@ -19,7 +20,7 @@ use Rattle.judgement.proofs.judging.judge.Tie as tie
 loaded :
     (c : tie.After-known-told2) → let s = c .before .before .before .before .args .site in
     (siteRule s ≡ Passed) × (c .before .l .given .0 .0 ≡ loadsOf (termsOf s))
-loaded c = given (c .before .before .before .before .args .site) _ (sym (c .before .before .before .critical-loads .ensures .0) ∙ c .before .l .given .1)
+loaded c = loads-given (c .before .before .before .before .args .site) _ (sym (c .before .before .before .critical-loads .ensures .0) ∙ c .before .l .given .1)
 
 max-s-le : (s : Site) → siteRule s ≡ Passed → loadsOf (termsOf s) .«max_s» ≤ mostMaxS
 unfolding loadsOf
@@ -48,17 +49,17 @@ verdict-at-requires c κs =
     )
 
 returns : tie.Need-returns
-unfolding judgementAnswer judgementIf
+unfolding judgementAnswer answerIf
 returns c =
     let s = c .before .before .before .before .args .site in
-    whole s _ (rw (refused s _ (sym (c .before .before .before .critical-loads .ensures .0) ∙ c .before .rule .given .1)))
+    judgement-promise s _ (rw (loads-refused s _ (sym (c .before .before .before .critical-loads .ensures .0) ∙ c .before .rule .given .1)))
 
 returns-2 : tie.Need-returns-2
-unfolding judgementAnswer judgementIf judgedOf
+unfolding judgementAnswer answerIf judgedOf
 returns-2 c =
     let s = c .before .before .before .before .before .before .args .site in
     let l = loaded (c .before .before) in
-    whole s _ (rw (l .0, c .verdict-at .ensures, l .1, c .before .retained-at .ensures, verdict-by-loads (termsOf s) (s .sulphur) (s .nitrogen)))
+    judgement-promise s _ (rw (l .0, c .verdict-at .ensures, l .1, c .before .retained-at .ensures, verdict-by-loads (termsOf s) (s .sulphur) (s .nitrogen)))
 
 pub judge-spec : {M : Type 1} → statement M
 judge-spec =

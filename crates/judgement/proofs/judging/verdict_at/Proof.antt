@@ -3,11 +3,11 @@ use borrow.Author.Needs.{needs}
 use Rattle.judgement.proofs.judging.verdict_at.Statement.{statement}
 use Rattle.judgement.proofs.judging.verdict_at.Tie as tie
 
-wide-requires : tie.Need-wide-requires
-wide-requires c κs = search needs
+wide16-requires : tie.Need-wide16-requires
+wide16-requires c κs = search needs
 
-wide-requires-2 : tie.Need-wide-requires-2
-wide-requires-2 c κs = search needs
+wide16-requires-2 : tie.Need-wide16-requires-2
+wide16-requires-2 c κs = search needs
 
 region-of-requires : tie.Need-region-of-requires
 region-of-requires c κs = search needs
@@ -29,16 +29,16 @@ returns c =
       c .before .above .ensures,
       c .before .before .acid-in .ensures,
       c .before .before .before .region-of .ensures,
-      c .before .before .before .before .wide2 .ensures .0,
-      c .before .before .before .before .before .wide .ensures .0,
+      c .before .before .before .before .wide162 .ensures .0,
+      c .before .before .before .before .before .wide16 .ensures .0,
     )
 
 pub verdict-at-spec : {M : Type 1} → statement M
 verdict-at-spec =
     tie.close
     (tie.spec
-    wide-requires
-    wide-requires-2
+    wide16-requires
+    wide16-requires-2
     region-of-requires
     acid-in-requires
     above-requires

@@ -1,9 +1,10 @@
 use mathlib.Core.Path.{_≡_, sym, _∙_}
 use Rattle.site.specs.Check.{siteRule}
+use Rattle.site.specs.ByCheck.{answerIf}
 use Rattle.site.specs.declared.Checked.the-variants.{Passed}
 use Rattle.site.proofs.BoundsLaw.{bounds}
-use Rattle.loads.specs.CriticalLoads.{loadsIf, loadsAnswer}
-use Rattle.loads.proofs.AnswerLaws.{whole}
+use Rattle.loads.specs.CriticalLoads.{loadsAnswer}
+use Rattle.loads.proofs.LoadsAnswers.{loads-promise}
 use borrow.Author.Needs.{needs}
 use Rattle.loads.proofs.critical.critical_loads.Statement.{statement}
 use Rattle.loads.proofs.critical.critical_loads.Tie as tie
@@ -24,16 +25,16 @@ loads-of-requires : tie.Need-loads-of-requires
 loads-of-requires c κs = bounds (c .before .before .before .args .site) (passed c)
 
 returns : tie.Need-returns
-unfolding loadsAnswer loadsIf
+unfolding loadsAnswer answerIf
 returns c =
     let s = c .before .before .before .before .args .site in
-    whole s _ (rw (sym (c .before .before .before .check-site .ensures .0) ∙ c .before .rule .given .1))
+    loads-promise s _ (rw (sym (c .before .before .before .check-site .ensures .0) ∙ c .before .rule .given .1))
 
 returns-2 : tie.Need-returns-2
-unfolding loadsAnswer loadsIf
+unfolding loadsAnswer answerIf
 returns-2 c =
     let s = c .before .before .before .before .args .site in
-    whole s _ (rw (passed (c .before), c .loads-of .ensures))
+    loads-promise s _ (rw (passed (c .before), c .loads-of .ensures))
 
 pub critical-loads-spec : {M : Type 1} → statement M
 critical-loads-spec =

@@ -6,11 +6,11 @@ use borrow.Author.Needs.{needs}
 use Rattle.loads.proofs.critical.loads_of.Statement.{statement}
 use Rattle.loads.proofs.critical.loads_of.Tie as tie
 
-index8-requires : tie.Need-index8-requires
-index8-requires c κs = search needs
+wide-requires : tie.Need-wide-requires
+wide-requires c κs = search needs
 
 stand-sums-requires : tie.Need-stand-sums-requires
-stand-sums-requires c κs = rw (c .index8 .ensures) (c .before .before .pre .stand)
+stand-sums-requires c κs = rw (c .wide .ensures .0) (c .before .before .pre .stand)
 
 add-demand : tie.Need-add-demand
 add-demand c = search needs
@@ -36,7 +36,7 @@ retained-at-requires c κs = search needs
 max-s-of-requires : tie.Need-max-s-of-requires
 max-s-of-requires c κs =
     let at = c .before .before .before .before .before .before .before in
-    (at .before .before .before .pre, rw (demand-is (at .before .before .before .args .s), at .stand-sums .ensures .base, at .before .index8 .ensures))
+    (at .before .before .before .pre, rw (demand-is (at .before .before .before .args .s), at .stand-sums .ensures .base, at .before .wide .ensures .0))
 
 with-nitrogen-requires : tie.Need-with-nitrogen-requires
 with-nitrogen-requires c κs =
@@ -55,7 +55,7 @@ returns c =
     let s = at .before .before .before .args .s in
     rw (c .with-nitrogen .ensures)
     (loads-by (termsOf s) _ _ _ _ (c .before .max-s-of .ensures .0)
-    (rw (minN-plain s, at .stand-sums .ensures .nitrogen, at .before .index8 .ensures, c .before .before .before .before .before .before .wide16 .ensures .0))
+    (rw (minN-plain s, at .stand-sums .ensures .nitrogen, at .before .wide .ensures .0, c .before .before .before .before .before .before .wide16 .ensures .0))
     (rw (leaching-is s, c .before .before .before .leaching-of .ensures .0, c .before .before .before .before .before .wide162 .ensures .0, c .before .before .before .before .wide163 .ensures .0))
     (c .before .before .retained-at .ensures))
 
@@ -63,7 +63,7 @@ pub loads-of-spec : {M : Type 1} → statement M
 loads-of-spec =
     tie.close
     (tie.spec
-    index8-requires
+    wide-requires
     stand-sums-requires
     add-demand
     wide16-requires

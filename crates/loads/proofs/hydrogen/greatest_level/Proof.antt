@@ -1,7 +1,8 @@
 use mathlib.Core.Path.{_≡_, sym, _∙_}
 use Rattle.site.specs.declared.Checked.the-variants.{Passed}
-use Rattle.loads.specs.Hydrogen.{levelRule, levelIf, levelAnswer}
-use Rattle.loads.proofs.LevelLaws.{level-passed, whole}
+use Rattle.site.specs.ByCheck.{answerIf}
+use Rattle.loads.specs.Hydrogen.{levelRule, levelAnswer}
+use Rattle.loads.proofs.LevelLaws.{level-passed, level-promise}
 use borrow.Author.Needs.{needs}
 use Rattle.loads.proofs.hydrogen.greatest_level.Statement.{statement}
 use Rattle.loads.proofs.hydrogen.greatest_level.Tie as tie
@@ -34,17 +35,17 @@ level-requires c κs =
     rw (c .before .before .wide16 .ensures .0, c .before .wide162 .ensures .0, c .wide163 .ensures .0) (level-passed (a .q) (a .k) (a .ceiling) (passed at))
 
 returns : tie.Need-returns
-unfolding levelAnswer levelIf
+unfolding levelAnswer answerIf
 returns c =
     let a = c .before .before .before .before .args in
-    whole (a .q) (a .k) (a .limit) (a .ceiling) _ (rw (sym (c .before .before .before .level-rule .ensures) ∙ c .before .rule .given .1))
+    level-promise (a .q) (a .k) (a .limit) (a .ceiling) _ (rw (sym (c .before .before .before .level-rule .ensures) ∙ c .before .rule .given .1))
 
 returns-2 : tie.Need-returns-2
-unfolding levelAnswer levelIf
+unfolding levelAnswer answerIf
 returns-2 c =
     let at = c .before .before .before .before in
     let a = at .before .before .before .args in
-    whole (a .q) (a .k) (a .limit) (a .ceiling) _
+    level-promise (a .q) (a .k) (a .limit) (a .ceiling) _
     (rw (passed at, c .level .ensures, c .before .before .before .wide16 .ensures .0, c .before .before .wide162 .ensures .0, c .before .wide163 .ensures .0))
 
 pub greatest-level-spec : {M : Type 1} → statement M

@@ -5,8 +5,8 @@ use borrow.Author.Needs.{needs}
 use Rattle.loads.proofs.nitrogen.retained_of.Statement.{statement}
 use Rattle.loads.proofs.nitrogen.retained_of.Tie as tie
 
-index8-requires : tie.Need-index8-requires
-index8-requires c κs = search needs
+wide-requires : tie.Need-wide-requires
+wide-requires c κs = search needs
 
 returns : tie.Need-returns
 unfolding retainedOf
@@ -20,8 +20,8 @@ sub-result c = search needs
 
 returns-2 : tie.Need-returns-2
 unfolding retainedOf
-returns-2 c = rw (c .denitrified-in .ensures .0, c .before .before .index8 .ensures)
+returns-2 c = rw (c .denitrified-in .ensures .0, c .before .before .wide .ensures .0)
 
 pub retained-of-spec : {M : Type 1} → statement M
 retained-of-spec =
-    tie.close (tie.spec index8-requires returns denitrified-in-requires sub-result returns-2)
+    tie.close (tie.spec wide-requires returns denitrified-in-requires sub-result returns-2)

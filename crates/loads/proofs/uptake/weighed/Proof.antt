@@ -24,8 +24,8 @@ base-fits c =
     prod 2000000 196605 (yielded-le (c .before .before .before .before))
     (omega (arith, c .before .before .before .wide162 .ensures .1, c .before .before .wide163 .ensures .1, c .before .wide164 .ensures .1))
 
-index8-requires : tie.Need-index8-requires
-index8-requires c κs = search needs
+wide-requires : tie.Need-wide-requires
+wide-requires c κs = search needs
 
 contents-of-requires : tie.Need-contents-of-requires
 contents-of-requires c κs = search needs
@@ -81,7 +81,7 @@ returns c =
     let at = c .before .before .before .before in
     let table = at .before .before in
     record {
-      nitrogen = rw (at .before .wide8 .ensures, at .wide16 .ensures .0, c .wide165 .ensures .0, table .contents-of .ensures, table .before .index8 .ensures);
+      nitrogen = rw (at .before .wide8 .ensures, at .wide16 .ensures .0, c .wide165 .ensures .0, table .contents-of .ensures, table .before .wide .ensures .0);
       base =
           rw (
             at .before .wide8 .ensures,
@@ -90,7 +90,7 @@ returns c =
             c .before .before .wide163 .ensures .0,
             c .before .before .before .wide162 .ensures .0,
             table .contents-of .ensures,
-            table .before .index8 .ensures,
+            table .before .wide .ensures .0,
           );
       nitrogen-le = omega (arith, nitrogen-fits c);
       base-le = omega (arith, base-fits c);
@@ -100,7 +100,7 @@ pub weighed-spec : {M : Type 1} → statement M
 weighed-spec =
     tie.close
     (tie.spec
-    index8-requires
+    wide-requires
     contents-of-requires
     wide8-requires
     wide16-requires

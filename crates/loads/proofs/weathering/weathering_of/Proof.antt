@@ -13,7 +13,7 @@ use Rattle.loads.proofs.weathering.weathering_of.Tie as tie
 
 -- the class, of which the bounds hold
 class : (c : tie.After-class-of) → let a = c .before .before .before .args in c .class-of .result ≡ classOf (a .parent) (textureOf (a .clay) (a .sand))
-class c = rw (c .class-of .ensures, c .before .index8 .ensures)
+class c = rw (c .class-of .ensures, c .before .wide .ensures .0)
 
 sized : (c : tie.After-class-of) → (1 ≤ c .class-of .result) × (c .class-of .result ≤ 20)
 sized c =
@@ -26,8 +26,8 @@ returns : tie.Need-returns
 unfolding weatheringOf
 returns c = simp (eq-eqb (c .before .args .parent) 0 (c .if1 .taken))
 
-index8-requires : tie.Need-index8-requires
-index8-requires c κs = search needs
+wide-requires : tie.Need-wide-requires
+wide-requires c κs = search needs
 
 class-of-requires : tie.Need-class-of-requires
 class-of-requires c κs = search needs
@@ -53,7 +53,7 @@ weathering-of-spec =
     tie.close
     (tie.spec
     returns
-    index8-requires
+    wide-requires
     class-of-requires
     mul-result
     sub-result

@@ -13,7 +13,7 @@ use Rattle.text.specs.Listing.{headText, header, listing}
 use Rattle.output.proofs.WriteLaws.{then, room}
 use Rattle.text.proofs.MarkLaws.{and-marked}
 use Rattle.text.proofs.LineLaws.{length-listing}
-use Rattle.text.proofs.AnswerLaws.{refused, printed}
+use Rattle.text.proofs.TextAnswers.{text-refused, text-printed}
 use borrow.Author.Needs.{needs}
 use Rattle.text.proofs.listing.put_listing.Statement.{statement}
 use Rattle.text.proofs.listing.put_listing.Tie as tie
@@ -37,7 +37,7 @@ returns c =
     let s = c .before .before .before .before in
     let rows = take (s .args .count) (s .args .rows) in
     let e = ap (λ (rs : List Row). length (each line rs)) (used (c .before .before) .1) in
-    and-marked rows (now (s .args .out)) (refused (listing rows) (now (s .args .out)) (omega (arith, length-listing rows)) (omega (arith, length-listing rows)))
+    and-marked rows (now (s .args .out)) (text-refused (listing rows) (now (s .args .out)) (omega (arith, length-listing rows)) (omega (arith, length-listing rows)))
 
 slice-aggregate-put-bytes : tie.Need-slice-aggregate-put-bytes
 slice-aggregate-put-bytes c = search needs
@@ -63,7 +63,7 @@ returns-2 c =
     let e = ap (λ (rs : List Row). length (each line rs)) (used j .1) in
     let w : Wrote (now (s .args .out)) 0 (listing rows) (c .before .before .put-lines .last .0) (c .before .before .put-lines .result) =
     rw (used j .1) at (then (c .before .before .before .before .before .before .put-bytes .ensures .fits (omega arith)) (c .before .before .put-lines .ensures)) in
-    and-marked rows (now (s .args .out)) (printed (listing rows) w (omega (arith, length-listing rows)))
+    and-marked rows (now (s .args .out)) (text-printed (listing rows) w (omega (arith, length-listing rows)))
 
 pub put-listing-spec : {M : Type 1} → statement M
 put-listing-spec =

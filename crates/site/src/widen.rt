@@ -1,4 +1,4 @@
-// A site's raw numbers as the calculation takes them.
+// Raw numbers as the calculation takes them.
 ghost use mathlib.Core.Path.{_≡_};
 ghost use Prim.Native.Nat.{_≤_};
 
@@ -12,10 +12,4 @@ pub fn wide16(x: u16) -> u64
     ensures { λ r. ⌜ (r ≡ x) × (r ≤ 65535) ⌝ }
 {
     x as u64
-}
-
-pub fn index8(x: u8) -> usize
-    ensures { λ r. ⌜ r ≡ x ⌝ }
-{
-    x as usize
 }

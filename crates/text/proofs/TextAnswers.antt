@@ -20,15 +20,15 @@ use Rattle.text.specs.Answer.{listedNumbers, listedOf, answer, Enough}
 abbrev pub Answered : ℕ → List ℕ → List ℕ → List ℕ → Listed → Type 0
 Answered most text d e r = (r ≡ answer text d) × ((e ≡ held text d) × ((listedNumbers r ≡ heldNumbers text d) × Enough most text d r))
 
-pub refused : {most : ℕ} (text d : List ℕ) → length d < length text → length text ≤ most → Answered most text d d (Refused BufferShort 0)
+pub text-refused : {most : ℕ} (text d : List ℕ) → length d < length text → length text ≤ most → Answered most text d d (Refused BufferShort 0)
 unfolding listedNumbers listedOf heldAfter outputNumbers
-refused text d h l =
+text-refused text d h l =
     let short = room-short (length text) (length d) h in
     (rw short, (rw short, (rw short, λ m. absurd (omega arith))))
 
-pub printed : {most : ℕ} {d e : List ℕ} {r : ℕ} (text : List ℕ) → Wrote d 0 text e r → length text ≤ length d → Answered most text d e (Bytes r)
+pub text-printed : {most : ℕ} {d e : List ℕ} {r : ℕ} (text : List ℕ) → Wrote d 0 text e r → length text ≤ length d → Answered most text d e (Bytes r)
 unfolding listedNumbers listedOf heldAfter outputNumbers
-printed {most} {d} {e} {r} text w h =
+text-printed {most} {d} {e} {r} text w h =
     let f = in-front w h in
     let long = room-enough (length text) (length d) h in
     (rw long (ap Bytes (f .0)), (rw long (f .1), (rw long (ap (λ (k : ℕ). (0, k)) (f .0)), λ m. ap Bytes (f .0))))

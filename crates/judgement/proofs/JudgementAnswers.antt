@@ -7,8 +7,9 @@ use Rattle.site.specs.Check.{siteRule}
 use Rattle.site.specs.declared.Site.{Site}
 use Rattle.site.specs.declared.Rule.{Rule}
 use Rattle.site.specs.Refusal.{valuesIf}
-use Rattle.site.specs.declared.Checked.{Checked}
 use Rattle.site.specs.declared.Checked.the-variants.{Passed, Broken}
+use Rattle.site.specs.ByCheck.{answerIf}
+use Rattle.site.proofs.ByCheckLaws.{given-by, refused-by, values-by}
 use Rattle.loads.specs.SiteTerms.{termsOf}
 use Rattle.loads.specs.Terms.{Terms}
 use Rattle.loads.specs.CriticalLoads.{loadsOf}
@@ -18,33 +19,26 @@ use Rattle.judgement.specs.declared.JudgementAnswer.the-variants.{Given,
 use Rattle.judgement.specs.Balance.{Says}
 use Rattle.judgement.specs.Regions.{regionNumber, regionOf, acidIn, acidOf}
 use Rattle.judgement.specs.Verdicts.{region, acidExceedance, nutrientExceedance, verdictOf, verdict, verdictNumbers, verdictWord}
-use Rattle.judgement.specs.Answers.{judgedOf, judgementIf, judgementAnswer, judgedValues, judgementValues, pairValues}
+use Rattle.judgement.specs.Answers.{judgedOf, judgementAnswer, judgedValues, judgementValues, pairValues}
 use Rattle.judgement.proofs.Demand3.{numbers-of}
 use Rattle.judgement.proofs.AtSites.{word-tells}
 
 -- a site that passes the check is judged
-pub given : (s : Site) → siteRule s ≡ Passed → judgementAnswer s ≡ Given (judgedOf s)
-unfolding judgementAnswer judgementIf
-given s p = rw p
+pub judged-passing : (s : Site) → siteRule s ≡ Passed → judgementAnswer s ≡ Given (judgedOf s)
+unfolding judgementAnswer answerIf
+judged-passing s p = rw p
 
 -- what an answer says of its site
-given-if : (c : Checked) (j k : Judged) → judgementIf c j ≡ Given k → (c ≡ Passed) × (k ≡ j)
-unfolding judgementIf
-given-if Passed j k e = (refl, cc)
-given-if (Broken r) j k e = let z : _≡_ {A = ℕ} 0 1 = cc in absurd (omega arith)
+apart : (j : Judged) (r : Rule) → Given j ≡ Refused r → ⊥
+apart j r e = let z : _≡_ {A = ℕ} 0 1 = cc in omega arith
 
-refused-if : (c : Checked) (j : Judged) (r : Rule) → judgementIf c j ≡ Refused r → c ≡ Broken r
-unfolding judgementIf
-refused-if Passed j r e = let z : _≡_ {A = ℕ} 0 1 = cc in absurd (omega arith)
-refused-if (Broken k) j r e = cc
-
-pub judged : (s : Site) (j : Judged) → judgementAnswer s ≡ Given j → (siteRule s ≡ Passed) × (j ≡ judgedOf s)
+pub judgement-given : (s : Site) (j : Judged) → judgementAnswer s ≡ Given j → (siteRule s ≡ Passed) × (j ≡ judgedOf s)
 unfolding judgementAnswer
-judged s j e = given-if (siteRule s) (judgedOf s) j e
+judgement-given s = given-by Given Refused apart (λ j k e. cc) (siteRule s) (judgedOf s)
 
-pub refused : (s : Site) (r : Rule) → judgementAnswer s ≡ Refused r → siteRule s ≡ Broken r
+pub judgement-refused : (s : Site) (r : Rule) → judgementAnswer s ≡ Refused r → siteRule s ≡ Broken r
 unfolding judgementAnswer
-refused s r e = refused-if (siteRule s) (judgedOf s) r e
+judgement-refused s = refused-by Given Refused apart (λ r k e. cc) (siteRule s) (judgedOf s)
 
 pub judged-says : (s : Site) → siteRule s ≡ Passed → Says (verdictWord (judgedOf s .verdict)) s
 unfolding judgedOf
@@ -67,18 +61,15 @@ judged-values : (s : Site) → judgedValues (judgedOf s) ≡ pairValues (termsOf
 unfolding judgedValues judgedOf loadsOf pairValues
 judged-values s = rw (numbers-are (termsOf s) (s .sulphur) (s .nitrogen))
 
-values-if : (c : Checked) (j : Judged) → judgementValues (judgementIf c j) ≡ valuesIf c (judgedValues j)
-unfolding judgementValues judgementIf valuesIf
-values-if Passed j = refl
-values-if (Broken k) j = refl
-
 module _ (s : Site) (r : JudgementAnswer) (is : r ≡ judgementAnswer s) where
   says : (j : Judged) → r ≡ Given j → Says (verdictWord (j .verdict)) s
-  says j e = let g = judged s j (sym is ∙ e) in rw (g .1) (judged-says s (g .0))
+  says j e = let g = judgement-given s j (sym is ∙ e) in rw (g .1) (judged-says s (g .0))
 
-  pub whole :
+  pub judgement-promise :
       (r ≡ judgementAnswer s)
       × ((judgementValues r ≡ valuesIf (siteRule s) (pairValues (termsOf s) (s .sulphur) (s .nitrogen)))
       × ((j : Judged) → r ≡ Given j → Says (verdictWord (j .verdict)) s))
-  unfolding judgementAnswer
-  whole = (is, (ap judgementValues is ∙ values-if (siteRule s) (judgedOf s) ∙ ap (valuesIf (siteRule s)) (judged-values s), says))
+  unfolding judgementAnswer judgementValues
+  judgement-promise =
+      let values = values-by Given Refused judgementValues judgedValues (λ j. refl) (λ k. refl) (siteRule s) (judgedOf s) in
+      (is, (ap judgementValues is ∙ values ∙ ap (valuesIf (siteRule s)) (judged-values s), says))
