@@ -81,7 +81,7 @@ fn print_hex(bytes: &[u8]) {
 
 fn print_listed(out: &[u8], listed: Listed) {
     match listed {
-        Listed::Bytes(n) => {
+        Listed::Count(n) => {
             if n <= out.len() {
                 io::write_all(1, &out[..n]);
             }
@@ -105,7 +105,7 @@ fn print_rewritten(bytes: &[u8], out: &mut [u8]) {
         Outcome::Refused { rule, at } => print_refusal(rule, at),
         Outcome::Accepted => match write_record(site, out) {
             Written::Refused(rule) => print_refusal(rule, 0),
-            Written::Wrote(n) => {
+            Written::Count(n) => {
                 if n <= out.len() {
                     print_hex(&out[..n]);
                 }

@@ -1,3 +1,3 @@
-pub mod ResultLaws
-pub mod ValueLaws
+pub mod CodeLaws
+pub mod SiteValueLaws
 pub mod RewriteLaws

@@ -10,7 +10,7 @@ use Rattle.record.specs.declared.Outcome.{Outcome}
 use Rattle.record.specs.declared.Outcome.the-variants.{Accepted, Refused}
 use Rattle.output.specs.Output.{roomRule, held}
 use Rattle.text.specs.declared.Listed.{Listed}
-use Rattle.text.specs.declared.Listed.the-variants.{Bytes, Refused as NotListed}
+use Rattle.text.specs.declared.Listed.the-variants.{Count, Refused as NotListed}
 
 -- rule number × 2³² + offset
 unfoldable pub refusalCode : Rule → ℕ → ℕ
@@ -32,5 +32,5 @@ rewriteHeld Accepted b old = held b old
 
 -- a listing: the count of bytes, or the refusal
 unfoldable pub listedCode : Listed → ℕ
-listedCode (Bytes n) = n
+listedCode (Count n) = n
 listedCode (NotListed r at) = refusalCode r at

@@ -1,12 +1,12 @@
 // The listing and the report of a file.
 ghost use mathlib.Core.Path.{_≡_};
 ghost use Rattle.output.specs.Output.{held};
-ghost use Rattle.text.specs.Answer.{answer};
+ghost use Rattle.text.specs.TextAnswer.{textAnswer};
 ghost use Rattle.record.specs.File.{contents};
-ghost use Rattle.listing.specs.Listing.{listAnswer, listHeld, reportOf};
-ghost use Rattle.listing.specs.Demand3.{Written3};
+ghost use Rattle.listing.specs.Reports.{listAnswer, listHeld, reportOf};
+ghost use Rattle.listing.specs.PrintedDemand3.{Written3};
 ghost use Rattle.exports.specs.Results.{listedCode};
-use crate::codes::refused_at;
+use crate::codes::refusal_code_at;
 use listing::list;
 use listing::report;
 use text::Listed;
@@ -15,8 +15,8 @@ fn listed_code(listed: Listed) -> u64
     ensures { λ r. ⌜ r ≡ listedCode listed ⌝ }
 {
     match listed {
-        Listed::Bytes(n) => n as u64,
-        Listed::Refused { rule, at } => refused_at(rule, at),
+        Listed::Count(n) => n as u64,
+        Listed::Refused { rule, at } => refusal_code_at(rule, at),
     }
 }
 
@@ -32,9 +32,9 @@ pub extern "C" fn forest_list(file: &[u8], out: &mut [u8]) -> u64
 
 #[no_mangle]
 pub extern "C" fn forest_report(file: &[u8], out: &mut [u8]) -> u64
-    ensures answer { λ r. ⌜ r ≡ listedCode (answer (reportOf (now (file .entry))) (now (out .entry))) ⌝ }
+    ensures answer { λ r. ⌜ r ≡ listedCode (textAnswer (reportOf (now (file .entry))) (now (out .entry))) ⌝ }
     ensures buffer { λ _. ⌜ now (out .exit) ≡ held (reportOf (now (file .entry))) (now (out .entry)) ⌝ }
-    ensures demand3 { λ _. ⌜ Written3 (now (file .entry)) (now (out .exit)) (answer (reportOf (now (file .entry))) (now (out .entry))) ⌝ }
+    ensures demand3 { λ _. ⌜ Written3 (now (file .entry)) (now (out .exit)) (textAnswer (reportOf (now (file .entry))) (now (out .entry))) ⌝ }
 {
     let listed = report(file, out);
     listed_code(listed)

@@ -2,8 +2,8 @@
 ghost use mathlib.Core.Path.{_≡_};
 ghost use Rattle.record.specs.Outer.{readRecord};
 ghost use Rattle.exports.specs.Results.{rewriteCode, rewriteHeld};
-use crate::codes::refused;
-use crate::codes::refused_at;
+use crate::codes::refusal_code;
+use crate::codes::refusal_code_at;
 use record::Outcome;
 use record::Written;
 use record::read_record;
@@ -18,10 +18,10 @@ pub extern "C" fn forest_rewrite(input: &[u8], out: &mut [u8]) -> u64
     let site = read.site;
     let outcome = read.outcome;
     match outcome {
-        Outcome::Refused { rule, at } => refused_at(rule, at),
+        Outcome::Refused { rule, at } => refusal_code_at(rule, at),
         Outcome::Accepted => match write_record(site, out) {
-            Written::Refused(rule) => refused(rule),
-            Written::Wrote(n) => n as u64,
+            Written::Refused(rule) => refusal_code(rule),
+            Written::Count(n) => n as u64,
         },
     }
 }

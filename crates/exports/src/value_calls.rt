@@ -8,7 +8,7 @@ ghost use Rattle.output.specs.Output.{outputRule, heldAfter};
 ghost use Rattle.output.specs.Writing.{Wrote};
 ghost use Rattle.exports.specs.Results.{codeIf};
 ghost use Rattle.exports.specs.Layout.{siteIn, valueCheck, loadsNumbers, judgementNumbers, verdictMarked};
-use crate::codes::refused;
+use crate::codes::refusal_code;
 use crate::layout::site_in;
 use judgement::JudgementAnswer;
 use judgement::Verdict;
@@ -25,10 +25,10 @@ pub extern "C" fn forest_check(site: &[u8]) -> u64
     ensures { λ r. ⌜ r ≡ codeIf (valueCheck (now (site .entry))) 0 ⌝ }
 {
     if site.len() != 50 {
-        return refused(Rule::BadLength);
+        return refusal_code(Rule::BadLength);
     }
     match check_site(site_in(site)) {
-        Checked::Broken(rule) => refused(rule),
+        Checked::Broken(rule) => refusal_code(rule),
         Checked::Passed => 0,
     }
 }
@@ -50,13 +50,13 @@ pub extern "C" fn forest_loads(site: &[u8], out: &mut [u64]) -> u64
     ensures buffer { λ _. ⌜ now (out .exit) ≡ heldAfter (outputRule (valueCheck (now (site .entry))) 4 (length (now (out .entry)))) (loadsNumbers (siteIn (now (site .entry)))) (now (out .entry)) ⌝ }
 {
     if site.len() != 50 {
-        return refused(Rule::BadLength);
+        return refusal_code(Rule::BadLength);
     }
     match critical_loads(site_in(site)) {
-        LoadsAnswer::Refused(rule) => refused(rule),
+        LoadsAnswer::Refused(rule) => refusal_code(rule),
         LoadsAnswer::Given(l) => {
             if out.len() < 4 {
-                return refused(Rule::BufferShort);
+                return refusal_code(Rule::BufferShort);
             }
             put_four(out, 0, [l.max_s, l.min_n, l.max_n, l.nut_n]);
             4
@@ -85,13 +85,13 @@ pub extern "C" fn forest_judge(site: &[u8], out: &mut [u64]) -> u64
     ensures demand3 { λ _. ⌜ (valueCheck (now (site .entry)) ≡ Passed → 8 ≤ length (now (out .entry)) → Marks (getD (now (out .exit)) 7 0) (siteIn (now (site .entry)))) ⌝ }
 {
     if site.len() != 50 {
-        return refused(Rule::BadLength);
+        return refusal_code(Rule::BadLength);
     }
     match judge(site_in(site)) {
-        JudgementAnswer::Refused(rule) => refused(rule),
+        JudgementAnswer::Refused(rule) => refusal_code(rule),
         JudgementAnswer::Given(judged) => {
             if out.len() < 8 {
-                return refused(Rule::BufferShort);
+                return refusal_code(Rule::BufferShort);
             }
             let l = judged.loads;
             let v = judged.verdict;

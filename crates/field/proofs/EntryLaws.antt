@@ -9,8 +9,8 @@ use lib.Seq.{getD-drop}
 use Rattle.site.specs.declared.Entry.{Entry}
 use Rattle.site.specs.Bounds.{noEntry}
 use Rattle.site.specs.Bytes.{wordOf}
-use Rattle.field.specs.Field.{entriesBytes, table, entryAt}
-use Rattle.field.specs.Clean.{Bytes}
+use Rattle.field.specs.Field.{entriesBytes, tabulate, entryAt}
+use Rattle.field.specs.Clean.{AllBytes}
 use Rattle.field.proofs.TableLaws.{table-cong}
 
 pub word-back : (y : ℕ) → wordOf (y / 256) (y % 256) ≡ y
@@ -50,7 +50,7 @@ entry-back (e ∷ es) zero = rw (word-back (e .«yield_kg»))
 entry-back (e ∷ es) (suc i) =
     entry-skip (e .species) (e .share) (e .«yield_kg» / 256) (e .«yield_kg» % 256) (entriesBytes es) i ∙ entry-back es i
 
-pub stand-back : (n : ℕ) (es : List Entry) → table n (λ i. entryAt (entriesBytes es) (4 * i)) ≡ table n (λ i. getD es i noEntry)
+pub stand-back : (n : ℕ) (es : List Entry) → tabulate n (λ i. entryAt (entriesBytes es) (4 * i)) ≡ tabulate n (λ i. getD es i noEntry)
 stand-back n es = table-cong n _ _ (entry-back es)
 
 pub no-length : (bs : List ℕ) → length bs ≡ 0 → bs ≡ []
@@ -58,8 +58,8 @@ no-length [] e = refl
 no-length (x ∷ bs) e = absurd (omega arith)
 
 -- the bytes are those of the entries that were read from them
-pub entries-back : (n m : ℕ) (v : List ℕ) → n ≤ m → length v ≡ 4 * n → Bytes v → entriesBytes (take n (table m (λ i. entryAt v (4 * i)))) ≡ v
-unfolding entriesBytes table entryAt
+pub entries-back : (n m : ℕ) (v : List ℕ) → n ≤ m → length v ≡ 4 * n → AllBytes v → entriesBytes (take n (tabulate m (λ i. entryAt v (4 * i)))) ≡ v
+unfolding entriesBytes tabulate entryAt
 entries-back zero m v h l b = sym (no-length v l)
 entries-back (suc n) zero v h l b = absurd (not-suc-le-zero h)
 entries-back (suc n) (suc m) [] h l b = absurd (omega arith)

@@ -10,8 +10,8 @@ use Rattle.site.proofs.Passing.{pass-then}
 use Rattle.site.specs.declared.Checked.{Checked}
 use Rattle.site.specs.declared.Checked.the-variants.{Passed}
 use Rattle.site.specs.Bytes.{wordAt}
-use Rattle.field.specs.Clean.{Bytes}
-use Rattle.field.specs.Field.{wordBytes, table}
+use Rattle.field.specs.Clean.{AllBytes}
+use Rattle.field.specs.Field.{wordBytes, tabulate}
 use Rattle.field.specs.Kind.{Kind, fieldRule}
 use Rattle.field.proofs.TableLaws.{table-getD}
 use Rattle.field.proofs.EntryLaws.{word-back}
@@ -20,24 +20,24 @@ use Rattle.field.proofs.EntryLaws.{word-back}
 
 module _ (v : List ℕ) where
   byte-kept : length v ≡ 1 → getD v 0 0 ∷ [] ≡ v
-  unfolding table
+  unfolding tabulate
   byte-kept l = rw l at (table-getD v 0)
 
   bytes-kept : length v ≡ 2 → getD v 0 0 ∷ getD v 1 0 ∷ [] ≡ v
-  unfolding table
+  unfolding tabulate
   bytes-kept l = rw l at (table-getD v 0)
 
-  word-hi : (i : ℕ) → Bytes v → wordAt v i / 256 ≡ getD v i 0
+  word-hi : (i : ℕ) → AllBytes v → wordAt v i / 256 ≡ getD v i 0
   word-hi i b = omega (arith, b (i + 1))
 
-  word-lo : (i : ℕ) → Bytes v → wordAt v i % 256 ≡ getD v (i + 1) 0
+  word-lo : (i : ℕ) → AllBytes v → wordAt v i % 256 ≡ getD v (i + 1) 0
   word-lo i b = omega (arith, b (i + 1))
 
-  word-kept : length v ≡ 2 → Bytes v → wordBytes (wordAt v 0) ≡ v
+  word-kept : length v ≡ 2 → AllBytes v → wordBytes (wordAt v 0) ≡ v
   word-kept l b = rw (word-hi 0 b, word-lo 0 b) (bytes-kept l)
 
-  words-kept : length v ≡ 4 → Bytes v → wordBytes (wordAt v 0) ++ wordBytes (wordAt v 2) ≡ v
-  unfolding table
+  words-kept : length v ≡ 4 → AllBytes v → wordBytes (wordAt v 0) ++ wordBytes (wordAt v 2) ≡ v
+  unfolding tabulate
   words-kept l b = rw (word-hi 0 b, word-lo 0 b, word-hi 2 b, word-lo 2 b) (rw l at (table-getD v 0))
 
 -- ---- the laws by tag
@@ -55,7 +55,7 @@ module _ {A : Type 0} (K : Kind A) where
 
   -- the field t is written as it was stored, and other fields leave it
   pub record Kept (t : ℕ) : Type 0 where
-    pub own : (v : List ℕ) (x : A) → fieldRule K t v x ≡ Passed → Bytes v → K .bytes t (K .store t v x) ≡ v
+    pub own : (v : List ℕ) (x : A) → fieldRule K t v x ≡ Passed → AllBytes v → K .bytes t (K .store t v x) ≡ v
     pub other : (u : ℕ) (v : List ℕ) (x : A) → (u ≡ t → ⊥) → K .bytes t (K .store u v x) ≡ K .bytes t x
 
   -- ---- the field t holds a part of the value: how it is made from bytes, its own bytes, and its rules 8 to 10
@@ -79,7 +79,7 @@ module _ {A : Type 0} (K : Kind A) where
 
   module _ (t w : ℕ) (one : OneLength t w) (B : Type 0) (part : A → B) (make : List ℕ → B) (bytes : B → List ℕ) (check : B → Checked)
       (is : Computes t B part make bytes check) (other : Leaves t B part)
-      (long : (b : B) → length (bytes b) ≡ w) (same : (b : B) → make (bytes b) ≡ b) (back : (v : List ℕ) → length v ≡ w → Bytes v → bytes (make v) ≡ v) where
+      (long : (b : B) → length (bytes b) ≡ w) (same : (b : B) → make (bytes b) ≡ b) (back : (v : List ℕ) → length v ≡ w → AllBytes v → bytes (make v) ≡ v) where
     again : (s : A) → K .rule t s ≡ Passed → (x : A) → fieldRule K t (K .bytes t s) x ≡ Passed
     unfolding fieldRule
     again s e x =

@@ -2,6 +2,6 @@ pub mod All
 pub mod TakenLaws
 pub mod TableLaws
 pub mod EntryLaws
-pub mod ValueLaws
+pub mod FieldValueLaws
 pub mod KindLaws
 pub mod TagLaws

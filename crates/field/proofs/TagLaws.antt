@@ -11,25 +11,25 @@ use Rattle.site.specs.declared.Site.{Site}
 use Rattle.site.specs.declared.Checked.the-variants.{Passed}
 use Rattle.site.specs.Bounds.{noEntry}
 use Rattle.site.specs.Choice.{pick}
-use Rattle.field.specs.Field.{table, entryAt, store, entriesBytes, value, siteKind}
+use Rattle.field.specs.Field.{tabulate, entryAt, store, entriesBytes, value, siteKind}
 use Rattle.field.specs.Kind.{fieldRule}
 use Rattle.site.specs.Ranges.{parentRange, depthRange, drainageRange, percolationRange, immobilisationRange, availableRange, baseDepositionRange, ratioRange, gibbsiteRange, ceilingRange, leachateRange}
 use Rattle.site.specs.Values.{due, itemWidths, mostItems, lengthPermitted, itemCount, countRule, valueRule, ranged, between}
 use Rattle.site.proofs.LengthLaws.{permitted-parts, parts-permitted, parts-counted, one-item}
-use Rattle.field.specs.Clean.{Sized, Bytes}
+use Rattle.field.specs.Clean.{Sized, AllBytes}
 use Rattle.field.proofs.All.{All, none, _▸_}
 use Rattle.field.proofs.TableLaws.{take-table, length-table, table-clean}
 use Rattle.field.proofs.EntryLaws.{stand-back, entries-back, entry-past}
 use Rattle.field.proofs.KindLaws.{Made, Kept, field-passed, OneLength, OneItem, byte-item, word-item, pair-item, words-item}
-use Rattle.field.proofs.ValueLaws.{name-counts, name-long, stand-counts, stand-long, bytes-long}
+use Rattle.field.proofs.FieldValueLaws.{name-counts, name-long, stand-counts, stand-long, bytes-long}
 
 -- ---- what was stored is written
 
 module _ (v : List ℕ) where
-  name-kept : lengthPermitted 1 (length v) ≡ true → take (length v) (table 8 (λ i. getD v i 0)) ≡ v
+  name-kept : lengthPermitted 1 (length v) ≡ true → take (length v) (tabulate 8 (λ i. getD v i 0)) ≡ v
   name-kept p = let q = permitted-parts 1 (length v) p in take-table 8 v 0 (omega arith)
 
-  stand-kept : lengthPermitted 7 (length v) ≡ true → Bytes v → entriesBytes (take (length v / 4) (table 4 (λ i. entryAt v (4 * i)))) ≡ v
+  stand-kept : lengthPermitted 7 (length v) ≡ true → AllBytes v → entriesBytes (take (length v / 4) (tabulate 4 (λ i. entryAt v (4 * i)))) ≡ v
   stand-kept p b = let q = permitted-parts 7 (length v) p in entries-back (length v / 4) 4 v (omega arith) (omega arith) b
 
 -- ---- what reading a field leaves in a site
@@ -77,11 +77,11 @@ one-length t w one wide ok = (λ n p. one-item t n one p ∙ wide, ok)
 pub quarter : (n : ℕ) → 4 * n / 4 ≡ n
 quarter n = omega arith
 
-name-clean : (v : List ℕ) → take 8 (take (length v) (table 8 (λ i. getD v i 0)) ++ replicate 8 0) ≡ table 8 (λ i. getD v i 0)
+name-clean : (v : List ℕ) → take 8 (take (length v) (tabulate 8 (λ i. getD v i 0)) ++ replicate 8 0) ≡ tabulate 8 (λ i. getD v i 0)
 name-clean v = table-clean 8 (length v) 8 (λ i. getD v i 0) 0 (omega arith) (λ i h. List·getD-eq-default v 0 {n = i} h)
 
 stand-clean : (v : List ℕ) → lengthPermitted 7 (length v) ≡ true
-    → take 4 (take (length v / 4) (table 4 (λ i. entryAt v (4 * i))) ++ replicate 4 noEntry) ≡ table 4 (λ i. entryAt v (4 * i))
+    → take 4 (take (length v / 4) (tabulate 4 (λ i. entryAt v (4 * i))) ++ replicate 4 noEntry) ≡ tabulate 4 (λ i. entryAt v (4 * i))
 stand-clean v p =
     let q = permitted-parts 7 (length v) p in
     table-clean 4 (length v / 4) 4 (λ i. entryAt v (4 * i)) noEntry (omega arith) (λ i h. entry-past v (4 * i) (omega arith))
@@ -138,7 +138,7 @@ stand-again s z c e x =
     let l = stand-long s z c in
     let k = stand-counts s z c in
     let n4 : length es ≤ 4 = omega arith in
-    let t : take (s .entries) (table 4 (λ i. getD es i noEntry)) ≡ es = rw l at (take-table 4 es noEntry n4) in
+    let t : take (s .entries) (tabulate 4 (λ i. getD es i noEntry)) ≡ es = rw l at (take-table 4 es noEntry n4) in
     rw (b, parts-permitted 7 (4 * s .entries) (omega arith) (omega arith) (omega arith) (omega arith), quarter, stand-back 4 es, t) e
 
 name-tag : TagLaws 1

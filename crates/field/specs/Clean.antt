@@ -35,5 +35,5 @@ pub record Sized (s : Site) : Type 0 where
   pub name : length (s .name) ≡ 8
   pub stand : length (s .stand) ≡ 4
 
-abbrev pub Bytes : List ℕ → Type 0
-Bytes bs = (i : ℕ) → getD bs i 0 < 256
+abbrev pub AllBytes : List ℕ → Type 0
+AllBytes bs = (i : ℕ) → getD bs i 0 < 256

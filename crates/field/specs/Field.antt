@@ -14,9 +14,9 @@ use Rattle.field.specs.declared.Taken.{Taken}
 use Rattle.field.specs.Kind.{Kind, fieldRule}
 
 -- n elements, of which number i is f i
-unfoldable pub table {ℓ} : {A : Type ℓ} → ℕ → (ℕ → A) → List A
-table zero f = []
-table (suc n) f = f 0 ∷ table n (λ i. f (suc i))
+unfoldable pub tabulate {ℓ} : {A : Type ℓ} → ℕ → (ℕ → A) → List A
+tabulate zero f = []
+tabulate (suc n) f = f 0 ∷ tabulate n (λ i. f (suc i))
 
 -- the entry whose four bytes start at place i
 unfoldable pub entryAt : List ℕ → ℕ → Entry
@@ -25,7 +25,7 @@ entryAt v i = record { species = getD v i 0; share = getD v (i + 1) 0; «yield_k
 -- the value v of the field with tag t, put into s; past v's end stand zeros
 unfoldable pub store : ℕ → List ℕ → Site → Site
 store t v s = record {
-  name = pick (eqb t 1) (table 8 (λ i. getD v i 0)) (s .name);
+  name = pick (eqb t 1) (tabulate 8 (λ i. getD v i 0)) (s .name);
   «name_len» = pick (eqb t 1) (length v) (s .«name_len»);
   parent = pick (eqb t 2) (getD v 0 0) (s .parent);
   clay = pick (eqb t 3) (getD v 0 0) (s .clay);
@@ -33,7 +33,7 @@ store t v s = record {
   depth = pick (eqb t 4) (getD v 0 0) (s .depth);
   drainage = pick (eqb t 5) (getD v 0 0) (s .drainage);
   percolation = pick (eqb t 6) (wordAt v 0) (s .percolation);
-  stand = pick (eqb t 7) (table 4 (λ i. entryAt v (4 * i))) (s .stand);
+  stand = pick (eqb t 7) (tabulate 4 (λ i. entryAt v (4 * i))) (s .stand);
   entries = pick (eqb t 7) (length v / 4) (s .entries);
   immobilisation = pick (eqb t 8) (wordAt v 0) (s .immobilisation);
   available = pick (eqb t 9) (getD v 0 0) (s .available);

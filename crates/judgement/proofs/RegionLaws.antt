@@ -11,7 +11,7 @@ use Rattle.site.proofs.Tests.{le-or-lt}
 use Rattle.loads.proofs.Tables.{lt-or-le}
 use Rattle.judgement.specs.declared.Region.{Region}
 use Rattle.judgement.specs.declared.Region.the-variants.{Unexceeded, NoSulphur, Slope, Corner, SulphurOnly}
-use Rattle.judgement.specs.Conditions.{Pair}
+use Rattle.judgement.specs.JudgementConditions.{Pair}
 use Rattle.judgement.specs.Regions.{D, excess, regionNumber, regionOf}
 
 module _ (S N C m e : ℕ) where

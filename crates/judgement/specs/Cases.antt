@@ -20,10 +20,10 @@ pub data Question : Type 0 where
   nitrogenOfA1 : (N : ℕ) → Question  -- nutrient exceedance
   soil : (clay sand : ℕ) → Question  -- texture class
 
-unfoldable pub answer : Question → List ℕ
-answer (pairOfA1 S N) = regionNumber (region (termsOf a1) S N) ∷ acidExceedance (termsOf a1) S N ∷ []
-answer (nitrogenOfA1 N) = nutrientExceedance (termsOf a1) N ∷ []
-answer (soil clay sand) = textureOf clay sand ∷ []
+unfoldable pub computed : Question → List ℕ
+computed (pairOfA1 S N) = regionNumber (region (termsOf a1) S N) ∷ acidExceedance (termsOf a1) S N ∷ []
+computed (nitrogenOfA1 N) = nutrientExceedance (termsOf a1) N ∷ []
+computed (soil clay sand) = textureOf clay sand ∷ []
 
 pub record Row : Type 0 where
   pub question : Question
@@ -45,6 +45,6 @@ table =
     ∷ record { question = soil 10 64; given = 2 ∷ [] }
     ∷ []
 
-agrees : map (λ (r : Row). answer (r .question)) table ≡ map (λ (r : Row). r .given) table
-unfolding table answer termsOf up textureOf classOf weatheringOf weathering availableWeathering content nitrogenIn baseIn weightOf sumOver standSum nitrogenUptake baseDemand baseUptakeOf baseUptake baseSupply aluminiumLimit hydrogenOf alOf greatestWhere levelOf hydrogen aluminium greatestLevel criticalLeaching denitrified retainedOf retained leaching maxS minN nutN D excess regionOf acidIn acidOf region acidExceedance nutrientExceedance
+agrees : map (λ (r : Row). computed (r .question)) table ≡ map (λ (r : Row). r .given) table
+unfolding table computed termsOf up textureOf classOf weatheringOf weathering availableWeathering content nitrogenIn baseIn weightOf sumOver standSum nitrogenUptake baseDemand baseUptakeOf baseUptake baseSupply aluminiumLimit hydrogenOf alOf greatestWhere levelOf hydrogen aluminium greatestLevel criticalLeaching denitrified retainedOf retained leaching maxS minN nutN D excess regionOf acidIn acidOf region acidExceedance nutrientExceedance
 agrees = refl

@@ -3,5 +3,5 @@ pub mod Verdicts
 pub mod Balance
 pub mod Less
 pub mod Answers
-pub mod Conditions
+pub mod JudgementConditions
 pub mod Cases

@@ -2,7 +2,7 @@
 ghost use mathlib.Core.Path.{_≡_};
 ghost use Prim.Native.Nat.{_+_, _*_, _-_, _≤_, _<_};
 ghost use Rattle.loads.specs.Rounding.{up};
-ghost use Rattle.judgement.specs.Conditions.{Own};
+ghost use Rattle.judgement.specs.JudgementConditions.{Own};
 ghost use Rattle.judgement.specs.Regions.{D, excess, acidIn};
 use crate::Region;
 

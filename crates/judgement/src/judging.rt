@@ -3,7 +3,7 @@ ghost use mathlib.Core.Path.{_≡_};
 ghost use Prim.Native.Nat.{_-_, _≤_};
 ghost use Rattle.site.specs.Check.{siteRule};
 ghost use Rattle.site.specs.Refusal.{valuesIf};
-ghost use Rattle.loads.specs.Most.{mostMaxS};
+ghost use Rattle.loads.specs.MostTerms.{mostMaxS};
 ghost use Rattle.loads.specs.SiteTerms.{termsOf};
 ghost use Rattle.judgement.specs.Regions.{regionOf, acidOf};
 ghost use Rattle.judgement.specs.Verdicts.{verdictOf, verdictWord};

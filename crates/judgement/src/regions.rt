@@ -1,6 +1,6 @@
 // The acid region of a pair, on plain numbers: c is CLmaxS, m is CLminN, e the part that is not denitrified, per mille.
 ghost use mathlib.Core.Path.{_≡_};
-ghost use Rattle.judgement.specs.Conditions.{Pair};
+ghost use Rattle.judgement.specs.JudgementConditions.{Pair};
 ghost use Rattle.judgement.specs.Regions.{regionNumber, regionOf};
 use crate::Region;
 

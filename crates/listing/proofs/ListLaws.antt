@@ -10,11 +10,11 @@ use Rattle.site.specs.declared.Rule.{Rule}
 use Rattle.record.specs.declared.Outcome.the-variants.{Accepted, Refused as Broken}
 use Rattle.text.specs.declared.Listed.{Listed}
 use Rattle.text.specs.declared.Listed.the-variants.{Refused}
-use Rattle.text.specs.Most.{mostText}
+use Rattle.text.specs.TextLengths.{mostText}
 use Rattle.text.specs.Listing.{listing}
-use Rattle.text.specs.Refusal.{refusal}
+use Rattle.text.specs.RefusalLine.{refusal}
 use Rattle.output.specs.Output.{heldNumbers, held}
-use Rattle.text.specs.Answer.{listedNumbers, answer, Enough}
+use Rattle.text.specs.TextAnswer.{listedNumbers, textAnswer, RoomEnough}
 use Rattle.text.specs.Marks.{Marked}
 use Rattle.text.proofs.TextAnswers.{Answered, written}
 use Rattle.listing.specs.declared.Walked.{Walked}
@@ -22,8 +22,8 @@ use Rattle.record.specs.Result.{good, fault}
 use Rattle.record.specs.File.{Contents, contents}
 use Rattle.record.proofs.ResultLaws.{not-good}
 use Rattle.listing.specs.Rows.{rowOf, padded, walkedOf}
-use Rattle.listing.specs.Listing.{listAnswer, listNumbers, listHeld, printed, reportOf}
-use Rattle.listing.specs.Demand3.{Written3}
+use Rattle.listing.specs.Reports.{listAnswer, listNumbers, listHeld, printed, reportOf}
+use Rattle.listing.specs.PrintedDemand3.{Written3}
 use Rattle.listing.proofs.MapLaws.{length-map}
 use Rattle.listing.proofs.Demand3Laws.{listing-says}
 
@@ -53,9 +53,9 @@ found-fault c is e = walked-fault c (rw is at e)
 
 -- what a call has written of the rows, by the sites
 pub by-sites : {w : Walked} {c : Contents Site} (x : Filled w c) (d : List ℕ) {e : List ℕ} {r : Listed}
-    → (r ≡ answer (listing (take (w .count) (w .rows))) d)
+    → (r ≡ textAnswer (listing (take (w .count) (w .rows))) d)
     × ((e ≡ held (listing (take (w .count) (w .rows))) d)
-    × ((listedNumbers r ≡ heldNumbers (listing (take (w .count) (w .rows))) d) × (Enough mostText (listing (take (w .count) (w .rows))) d r × Marked (take (w .count) (w .rows)) e r)))
+    × ((listedNumbers r ≡ heldNumbers (listing (take (w .count) (w .rows))) d) × (RoomEnough mostText (listing (take (w .count) (w .rows))) d r × Marked (take (w .count) (w .rows)) e r)))
     → Answered mostText (listing (map rowOf (x .ss))) d e r
 by-sites x d p = rw (← x .rows) (p .0, (p .1 .0, (p .1 .1 .0, p .1 .1 .1 .0)))
 
@@ -84,8 +84,8 @@ listed-fault f d h = (rw h, (rw h, (rw h, λ n b. let z : _≡_ {A = ℕ} 0 1 = 
 -- the clauses of the call that reports
 abbrev pub Reported : List ℕ → List ℕ → List ℕ → Listed → Type 0
 Reported f d e r =
-    (r ≡ answer (reportOf f) d)
-    × ((e ≡ held (reportOf f) d) × ((listedNumbers r ≡ heldNumbers (reportOf f) d) × (Enough mostText (reportOf f) d r × Written3 f e r)))
+    (r ≡ textAnswer (reportOf f) d)
+    × ((e ≡ held (reportOf f) d) × ((listedNumbers r ≡ heldNumbers (reportOf f) d) × (RoomEnough mostText (reportOf f) d r × Written3 f e r)))
 
 reported : (f d : List ℕ) {e : List ℕ} {r : Listed} → Answered mostText (reportOf f) d e r → Written3 f e r → Reported f d e r
 reported f d a w = (a .0, (a .1 .0, (a .1 .1 .0, (a .1 .1 .1, w))))

@@ -10,9 +10,9 @@ use Rattle.site.specs.declared.Site.{Site}
 use Rattle.site.specs.declared.Rule.{Rule}
 use Rattle.site.specs.declared.Rule.the-variants.{TooMany}
 use Rattle.record.specs.declared.Outcome.the-variants.{Accepted, Refused}
-use Rattle.record.specs.Result.{good, fault}
+use Rattle.record.specs.Result.{good, fault, resultNumbers}
 use Rattle.record.specs.Outer.{siteAt, recordAt, outcomeNumbers}
-use Rattle.record.specs.File.{Contents, first, onto, walkFile, contents, contentsNumbers}
+use Rattle.record.specs.File.{Contents, first, onto, walkFile, contents}
 use Rattle.record.proofs.FileLaws.{walk-end, walk-full, walk-step}
 use Rattle.record.proofs.Place.{record-good, record-fault, site-after, site-inside}
 use Rattle.record.proofs.SiteFile.{sites-some}
@@ -109,14 +109,14 @@ module _ {f : List ℕ} {rows : List Row} {count at : ℕ} (so : So f rows count
           rw (← turn-next (recordAt f at) is) (omega (arith, site-after f at (record-good f at a)), site-inside f at (record-good f at a))
 
 -- an answer, and its numbers
-pub numbers-of : (c : Contents Site) → outcomeNumbers (walkedOf c .outcome) ≡ contentsNumbers c
-unfolding walkedOf outcomeNumbers contentsNumbers
+pub numbers-of : (c : Contents Site) → outcomeNumbers (walkedOf c .outcome) ≡ resultNumbers c
+unfolding walkedOf outcomeNumbers resultNumbers
 numbers-of (good ss) = refl
 numbers-of (fault rule at) = refl
 
-pub with-numbers : {w : Walked} (c : Contents Site) → w ≡ walkedOf c → (w ≡ walkedOf c) × (outcomeNumbers (w .outcome) ≡ contentsNumbers c)
+pub with-numbers : {w : Walked} (c : Contents Site) → w ≡ walkedOf c → (w ≡ walkedOf c) × (outcomeNumbers (w .outcome) ≡ resultNumbers c)
 with-numbers c e = (e, rw e (numbers-of c))
 
 pub with-fault : {w : Walked} {c : Contents Site} {rule : Rule} {at : ℕ} → c ≡ fault rule at → w ≡ walkedOf (fault rule at)
-    → (w ≡ walkedOf c) × (outcomeNumbers (w .outcome) ≡ contentsNumbers c)
+    → (w ≡ walkedOf c) × (outcomeNumbers (w .outcome) ≡ resultNumbers c)
 with-fault {w} {c} e r = with-numbers c (r ∙ ap walkedOf (sym e))

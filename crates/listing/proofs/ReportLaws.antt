@@ -9,8 +9,8 @@ use Rattle.field.specs.Field.{blankSite}
 use Rattle.field.proofs.All.{all-at}
 use Rattle.record.specs.File.{mostFile}
 use Rattle.record.proofs.SiteFile.{sites-more, sites-checked}
-use Rattle.listing.specs.Listing.{printed, reportOf}
-use Rattle.listing.specs.Demand3.{Demand3, NeverWorse}
+use Rattle.listing.specs.Reports.{printed, reportOf}
+use Rattle.listing.specs.PrintedDemand3.{Demand3, PrintedNeverWorse}
 use Rattle.listing.proofs.Demand3Laws.{listing-says}
 
 -- DEMAND 3 in what is printed
@@ -24,11 +24,11 @@ unfolding reportOf
 report-take f = ap printed (sites-more f mostFile (omega arith))
 
 -- less deposition is never worse, in all texts of which demand 3 holds
-pub texts-stay : (f x g y : List ℕ) → Demand3 f x → Demand3 g y → NeverWorse f x g y
+pub texts-stay : (f x g y : List ℕ) → Demand3 f x → Demand3 g y → PrintedNeverWorse f x g y
 texts-stay f x g y df dg ss ts hf hg k l kl ll less =
     let passed = all-at (sites-checked f ss hf .1) k blankSite kl in
     told-stays (getD ss k blankSite) passed (getD ts l blankSite) (less .one) (less .sulphur) (less .nitrogen) (df ss hf k kl) (dg ts hg l ll)
 
 -- and so in what is printed
-pub report-stays : (f g : List ℕ) → NeverWorse f (reportOf f) g (reportOf g)
+pub report-stays : (f g : List ℕ) → PrintedNeverWorse f (reportOf f) g (reportOf g)
 report-stays f g = texts-stay f (reportOf f) g (reportOf g) (report-says f) (report-says g)

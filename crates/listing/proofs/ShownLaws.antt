@@ -4,16 +4,16 @@ use mathlib.Core.Path.{_≡_, refl, sym, ap, _∙_}
 use mathlib.Core.List.{List, _++_}
 use native.Mathlib.Omega.{arith}
 use lib.ListN.{length, take, drop, length-append}
+use Rattle.site.specs.ByCheck.{answerIf}
 use Rattle.site.specs.declared.Rule.{Rule}
 use Rattle.site.specs.declared.Checked.{Checked}
 use Rattle.site.specs.declared.Checked.the-variants.{Passed, Broken}
 use Rattle.text.specs.declared.Listed.{Listed}
-use Rattle.text.specs.declared.Listed.the-variants.{Bytes, Refused}
-use Rattle.text.specs.Most.{mostText}
+use Rattle.text.specs.declared.Listed.the-variants.{Count, Refused}
+use Rattle.text.specs.TextLengths.{mostText}
 use Rattle.output.specs.Output.{roomRule, heldAfter, outputCount, held}
-use Rattle.text.specs.Answer.{listedOf}
 use Rattle.text.proofs.TextAnswers.{Answered, written}
-use Rattle.listing.specs.Listing.{shownLength}
+use Rattle.listing.specs.Reports.{shownLength}
 
 -- the clauses of the call that says how many
 abbrev Shown : List ℕ → List ℕ → List ℕ → ℕ → Type 0
@@ -21,8 +21,8 @@ Shown text d e k =
     ((k ≤ length e) × (k ≡ length (take k e)))
     × ((k ≡ shownLength text d) × ((e ≡ held text d) × (mostText ≤ length d → take k e ≡ text)))
 
-pub shown-some : (text d : List ℕ) {e : List ℕ} {r : Listed} (k : ℕ) → r ≡ Bytes k → Answered mostText text d e r → Shown text d e k
-unfolding listedOf heldAfter outputCount
+pub shown-some : (text d : List ℕ) {e : List ℕ} {r : Listed} (k : ℕ) → r ≡ Count k → Answered mostText text d e r → Shown text d e k
+unfolding answerIf heldAfter outputCount
 shown-some text d {e} {r} k b a = go (roomRule (length text) (length d)) refl
   where
     shows : take k e ≡ text
@@ -30,7 +30,7 @@ shown-some text d {e} {r} k b a = go (roomRule (length text) (length d)) refl
 
     go : (t : Checked) → roomRule (length text) (length d) ≡ t → Shown text d e k
     go Passed t =
-        let a′ : r ≡ Bytes (length text) = rw t at (a .0) in
+        let a′ : r ≡ Count (length text) = rw t at (a .0) in
         let h′ : e ≡ text ++ drop (length text) d = rw t at (a .1 .0) in
         let n : k ≡ length text = cc in
         ((omega (arith, ap length h′, length-append text (drop (length text) d)), n ∙ sym (ap length shows)), (rw t n, (a .1 .0, λ m. shows)))
@@ -40,10 +40,10 @@ shown-some text d {e} {r} k b a = go (roomRule (length text) (length d)) refl
         absurd (omega arith)
 
 pub shown-none : (text d : List ℕ) {e : List ℕ} {r : Listed} {rule : Rule} {at : ℕ} → r ≡ Refused rule at → Answered mostText text d e r → Shown text d e 0
-unfolding listedOf heldAfter outputCount
+unfolding answerIf heldAfter outputCount
 shown-none text d {e} {r} b a = go (roomRule (length text) (length d)) refl
   where
-    clash : {n : ℕ} {P : Type 0} → r ≡ Bytes n → P
+    clash : {n : ℕ} {P : Type 0} → r ≡ Count n → P
     clash q = let z : _≡_ {A = ℕ} 0 1 = cc in absurd (omega arith)
 
     go : (t : Checked) → roomRule (length text) (length d) ≡ t → Shown text d e 0

@@ -1,3 +1,3 @@
 pub mod Rows
-pub mod Listing
-pub mod Demand3
+pub mod Reports
+pub mod PrintedDemand3

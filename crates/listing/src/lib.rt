@@ -8,7 +8,7 @@ pub use printing::report;
 pub use printing::shown;
 use record::Outcome;
 use text::Row;
-pub use walking::walk;
+pub use walking::walk_file;
 
 // The rows of a file's records, or its first fault and no row. Rows from `count` on are blank.
 pub struct Walked {

@@ -1,10 +1,10 @@
 // The listing of a file into a lent buffer.
 ghost use mathlib.Core.Path.{_≡_};
-ghost use Rattle.text.specs.Answer.{listedNumbers};
+ghost use Rattle.text.specs.TextAnswer.{listedNumbers};
 ghost use Rattle.record.specs.File.{contents};
-ghost use Rattle.listing.specs.Listing.{listAnswer, listNumbers, listHeld};
-ghost use Rattle.listing.specs.Demand3.{Written3};
-use crate::walking::walk;
+ghost use Rattle.listing.specs.Reports.{listAnswer, listNumbers, listHeld};
+ghost use Rattle.listing.specs.PrintedDemand3.{Written3};
+use crate::walking::walk_file;
 use record::Outcome;
 use text::Listed;
 use text::put_listing;
@@ -16,7 +16,7 @@ pub fn list(file: &[u8], out: &mut [u8]) -> Listed
     ensures numbers { λ r. ⌜ listedNumbers r ≡ listNumbers (contents (now (file .entry))) (now (out .entry)) ⌝ }
     ensures demand3 { λ r. ⌜ Written3 (now (file .entry)) (now (out .exit)) r ⌝ }
 {
-    let w = walk(file);
+    let w = walk_file(file);
     let o = w.outcome;
     match o {
         Outcome::Refused { rule, at } => Listed::Refused { rule, at },

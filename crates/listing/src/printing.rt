@@ -2,12 +2,12 @@
 ghost use mathlib.Core.Path.{_≡_};
 ghost use Prim.Native.Nat.{_≤_};
 ghost use lib.ListN.{length, take};
-ghost use Rattle.text.specs.Most.{mostText};
+ghost use Rattle.text.specs.TextLengths.{mostText};
 ghost use Rattle.output.specs.Output.{heldNumbers, held};
-ghost use Rattle.text.specs.Answer.{listedNumbers, answer, Enough};
-ghost use Rattle.listing.specs.Listing.{reportOf, shownLength};
-ghost use Rattle.listing.specs.Demand3.{Written3};
-use crate::walking::walk;
+ghost use Rattle.text.specs.TextAnswer.{listedNumbers, textAnswer, RoomEnough};
+ghost use Rattle.listing.specs.Reports.{reportOf, shownLength};
+ghost use Rattle.listing.specs.PrintedDemand3.{Written3};
+use crate::walking::walk_file;
 use record::Outcome;
 use text::Listed;
 use text::put_listing;
@@ -15,13 +15,13 @@ use text::put_refusal;
 
 // The listing, or the line of the refusal.
 pub fn report(file: &[u8], out: &mut [u8]) -> Listed
-    ensures answer { λ r. ⌜ r ≡ answer (reportOf (now (file .entry))) (now (out .entry)) ⌝ }
+    ensures answer { λ r. ⌜ r ≡ textAnswer (reportOf (now (file .entry))) (now (out .entry)) ⌝ }
     ensures buffer { λ _. ⌜ now (out .exit) ≡ held (reportOf (now (file .entry))) (now (out .entry)) ⌝ }
     ensures numbers { λ r. ⌜ listedNumbers r ≡ heldNumbers (reportOf (now (file .entry))) (now (out .entry)) ⌝ }
-    ensures enough { λ r. ⌜ Enough mostText (reportOf (now (file .entry))) (now (out .entry)) r ⌝ }
+    ensures enough { λ r. ⌜ RoomEnough mostText (reportOf (now (file .entry))) (now (out .entry)) r ⌝ }
     ensures demand3 { λ r. ⌜ Written3 (now (file .entry)) (now (out .exit)) r ⌝ }
 {
-    let w = walk(file);
+    let w = walk_file(file);
     let o = w.outcome;
     match o {
         Outcome::Refused { rule, at } => put_refusal(out, rule, at),
@@ -42,7 +42,7 @@ pub fn shown(file: &[u8], out: &mut [u8]) -> usize
 {
     let r = report(file, out);
     match r {
-        Listed::Bytes(k) => k,
+        Listed::Count(k) => k,
         Listed::Refused { rule: _, at: _ } => 0,
     }
 }

@@ -1,8 +1,8 @@
 // The walk over a file: each record is read, loaded and judged once.
 ghost use mathlib.Core.Path.{_≡_};
 ghost use Rattle.record.specs.Outer.{recordAt, outcomeNumbers};
-ghost use Rattle.record.specs.File.{contents, contentsNumbers};
-ghost use Rattle.record.specs.Result.{fault};
+ghost use Rattle.record.specs.File.{contents};
+ghost use Rattle.record.specs.Result.{fault, resultNumbers};
 ghost use Rattle.listing.specs.Rows.{blankRow, rowBy, turnOf, walkedOf};
 use crate::Turn;
 use crate::Walked;
@@ -81,7 +81,7 @@ fn turn(file: &[u8], at: usize) -> Turn
     }
 }
 
-fn refused(rule: Rule, at: usize) -> Walked
+fn refused_rows(rule: Rule, at: usize) -> Walked
     ensures { λ r. ⌜ r ≡ walkedOf (fault rule at) ⌝ }
 {
     let row = blank_row();
@@ -95,13 +95,13 @@ fn refused(rule: Rule, at: usize) -> Walked
 }
 
 // The rows of a file, or its first fault.
-pub fn walk(file: &[u8]) -> Walked
+pub fn walk_file(file: &[u8]) -> Walked
     ensures answer { λ r. ⌜ r ≡ walkedOf (contents (now (file .entry))) ⌝ }
-    ensures numbers { λ r. ⌜ outcomeNumbers (r .outcome) ≡ contentsNumbers (contents (now (file .entry))) ⌝ }
+    ensures numbers { λ r. ⌜ outcomeNumbers (r .outcome) ≡ resultNumbers (contents (now (file .entry))) ⌝ }
 {
     if file.len() < 1 {
         let rule = Rule::NoBytes;
-        return refused(rule, 0);
+        return refused_rows(rule, 0);
     }
     let row = blank_row();
     let mut rows = [row; 500];
@@ -110,13 +110,13 @@ pub fn walk(file: &[u8]) -> Walked
     while at < file.len() {
         if 500 <= count {
             let rule = Rule::TooMany;
-            return refused(rule, at);
+            return refused_rows(rule, at);
         }
         let t = turn(file, at);
         let o = t.outcome;
         match o {
             Outcome::Refused { rule, at: p } => {
-                return refused(rule, p);
+                return refused_rows(rule, p);
             }
             Outcome::Accepted => {
                 let r = t.row;

@@ -15,7 +15,7 @@ use Rattle.site.proofs.Passing.{both-passed, between-passed}
 use Rattle.site.proofs.ByCheckLaws.{values-by}
 use Rattle.loads.specs.declared.LevelAnswer.{LevelAnswer}
 use Rattle.loads.specs.declared.LevelAnswer.the-variants.{Greatest, Refused}
-use Rattle.loads.specs.Conditions.{Levels}
+use Rattle.loads.specs.LoadsConditions.{Levels}
 use Rattle.loads.specs.Hydrogen.{hydrogenOf, alOf, levelOf, levelRule, levelAnswer, levelValues}
 use Rattle.loads.proofs.GreatestLaws.{greatest-le, greatest-passes, greatest-most, greatest-unique}
 use Rattle.loads.proofs.Numbers.{div-mono}

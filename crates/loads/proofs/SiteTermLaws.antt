@@ -10,7 +10,7 @@ use Rattle.site.specs.Choice.{pick}
 use Rattle.site.specs.Bounds.{Bounds}
 use Rattle.site.specs.declared.Site.{Site}
 use Rattle.loads.specs.Rounding.{up}
-use Rattle.loads.specs.Most.{mostWeathering, mostAvailable, mostA}
+use Rattle.loads.specs.MostTerms.{mostWeathering, mostAvailable, mostA}
 use Rattle.loads.specs.Texture.{textureOf}
 use Rattle.loads.specs.Weathering.{classOf, weatheringOf, weathering, availableWeathering}
 use Rattle.loads.specs.Uptake.{baseIn, nitrogenIn, standSum, nitrogenUptake, baseDemand, baseUptakeOf, baseUptake}
@@ -20,7 +20,7 @@ use Rattle.loads.specs.Nitrogen.{retained, retainedOf, leaching}
 use Rattle.loads.specs.Terms.{TermBounds}
 use Rattle.loads.specs.SiteTerms.{termsOf}
 use Rattle.loads.specs.CriticalLoads.{maxS, minN}
-use Rattle.loads.specs.Conditions.{acidLoad}
+use Rattle.loads.specs.LoadsConditions.{acidLoad}
 use Rattle.loads.proofs.Numbers.{prod, part-le, quotient-le}
 use Rattle.loads.proofs.Tables.{class-le, retained-le, retained-pos}
 use Rattle.loads.proofs.TextureLaws.{texture-between}

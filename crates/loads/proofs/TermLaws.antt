@@ -4,7 +4,7 @@ use mathlib.Core.Path.{_≡_, refl}
 use native.Mathlib.Omega.{arith}
 use native.Mathlib.Nat.{mul-le-mul}
 use Rattle.site.specs.Ranges.{ceilingRange}
-use Rattle.loads.specs.Most.{mostHydrogen, mostMaxS}
+use Rattle.loads.specs.MostTerms.{mostHydrogen, mostMaxS}
 use Rattle.loads.specs.Terms.{Terms, TermBounds}
 use Rattle.loads.specs.Hydrogen.{hydrogenOf, hydrogen, aluminium, greatestLevel, criticalLeaching}
 use Rattle.loads.specs.CriticalLoads.{maxS, minN, maxN, nutN, loadsOf}

@@ -1,5 +1,5 @@
 pub mod Rounding
-pub mod Most
+pub mod MostTerms
 pub mod Terms
 pub mod Texture
 pub mod Weathering
@@ -10,5 +10,5 @@ pub mod SiteTerms
 pub mod Hydrogen
 pub mod CriticalLoads
 pub mod OneSite
-pub mod Conditions
+pub mod LoadsConditions
 pub mod Example

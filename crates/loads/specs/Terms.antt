@@ -1,7 +1,7 @@
 -- The terms of document 01 at a site, under its letters: all that the loads and the balances know of a site.
 use Prim.Native.Nat.{ℕ, _≤_}
 use Rattle.site.specs.Ranges.{percolationRange, ceilingRange}
-use Rattle.loads.specs.Most.{mostSupply, mostA, mostL}
+use Rattle.loads.specs.MostTerms.{mostSupply, mostA, mostL}
 
 pub record Terms : Type 0 where
   pub Nu : ℕ  -- nitrogen uptake that the site offers

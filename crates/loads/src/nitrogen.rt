@@ -2,7 +2,7 @@
 ghost use mathlib.Core.Path.{_≡_};
 ghost use Prim.Native.Nat.{_*_, _/_, _≤_};
 ghost use Rattle.site.specs.Ranges.{percolationRange, leachateRange};
-ghost use Rattle.loads.specs.Most.{mostL};
+ghost use Rattle.loads.specs.MostTerms.{mostL};
 ghost use Rattle.loads.specs.Nitrogen.{denitrified, retainedOf};
 ghost use Rattle.loads.specs.SiteTerms.{termsOf};
 use site::Site;

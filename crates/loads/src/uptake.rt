@@ -6,7 +6,7 @@ ghost use lib.ListN.{getD};
 ghost use Rattle.site.specs.Bounds.{EntryBounds, StandBounds};
 ghost use Rattle.site.specs.Ranges.{percolationRange};
 ghost use Rattle.loads.specs.Uptake.{speciesTable, baseUptakeOf};
-ghost use Rattle.loads.specs.Conditions.{Weighed, Summed};
+ghost use Rattle.loads.specs.LoadsConditions.{Weighed, Summed};
 use site::Entry;
 use site::wide;
 use site::wide8;

@@ -2,7 +2,7 @@
 ghost use mathlib.Core.Path.{_≡_};
 ghost use Prim.Native.Nat.{_*_, _/_, _≤_};
 ghost use Rattle.site.specs.Ranges.{availableRange};
-ghost use Rattle.loads.specs.Most.{mostWeathering};
+ghost use Rattle.loads.specs.MostTerms.{mostWeathering};
 ghost use Rattle.loads.specs.Weathering.{classOf, weatheringOf};
 ghost use Rattle.loads.specs.Texture.{textureOf};
 use crate::texture::texture_of;

@@ -1,3 +1,3 @@
-pub mod WriteLaws
+pub mod WritingLaws
 pub mod EachLaws
 pub mod OutputLaws

@@ -14,7 +14,7 @@ use Rattle.site.specs.Choice.{pick}
 use Rattle.program.specs.declared.Input.{Input}
 use Rattle.program.specs.declared.Reading.{Reading}
 use Rattle.program.specs.declared.Reading.the-variants.{More, Ended, Failed}
-use Rattle.program.specs.Reader.{afterRead, onward, afterReads, ReadAll}
+use Rattle.program.specs.Reads.{afterRead, onward, afterReads, ReadAll}
 
 -- ---- a signed number that is not below 0
 

@@ -1,2 +1,2 @@
-pub mod Reader
-pub mod Output
+pub mod Reads
+pub mod Printing

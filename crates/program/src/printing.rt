@@ -3,10 +3,10 @@ ghost use mathlib.Core.Path.{_≡_};
 ghost use mathlib.Core.List.{List, _++_};
 ghost use Prim.Native.Nat.{ℕ, _≤_, min};
 ghost use lib.ListN.{length, take, drop};
-ghost use Rattle.listing.specs.Listing.{reportOf};
-ghost use Rattle.listing.specs.Demand3.{Demand3};
+ghost use Rattle.listing.specs.Reports.{reportOf};
+ghost use Rattle.listing.specs.PrintedDemand3.{Demand3};
 ghost use Rattle.program.specs.declared.Reading.the-variants.{Failed};
-ghost use Rattle.program.specs.Output.{outputOf, ReadFrom};
+ghost use Rattle.program.specs.Printing.{outputOf, ReadFrom};
 use crate::Reading;
 use listing::shown;
 

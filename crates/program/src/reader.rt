@@ -2,7 +2,7 @@
 ghost use mathlib.Core.Path.{_≡_};
 ghost use Prim.Native.Nat.{_-_, _≤_};
 ghost use lib.ListN.{length};
-ghost use Rattle.program.specs.Reader.{afterRead, ReadOnce, ReadAll};
+ghost use Rattle.program.specs.Reads.{afterRead, ReadOnce, ReadAll};
 use crate::Input;
 use crate::Reading;
 

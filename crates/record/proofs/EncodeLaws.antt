@@ -9,15 +9,15 @@ use Rattle.site.specs.declared.Checked.the-variants.{Passed}
 use Rattle.site.specs.Check.{siteRule}
 use Rattle.site.specs.Values.{due}
 use Rattle.site.proofs.FieldLaws.{site-passed}
-use Rattle.record.specs.Bytes.{fieldOf}
+use Rattle.record.specs.FieldParts.{fieldOf}
 use Rattle.field.specs.Field.{entriesBytes, value, siteKind}
 use Rattle.field.specs.Kind.{Kind}
 use Rattle.record.specs.Fields.{encodeFields, encodeAs}
 use Rattle.field.specs.Clean.{Sized}
 use Rattle.record.specs.Writer.{encode}
 use Rattle.output.specs.Writing.{Wrote, each}
-use Rattle.output.proofs.WriteLaws.{then}
-use Rattle.field.proofs.ValueLaws.{name-counts, name-long, stand-counts, bytes-long}
+use Rattle.output.proofs.WritingLaws.{then}
+use Rattle.field.proofs.FieldValueLaws.{name-counts, name-long, stand-counts, bytes-long}
 
 -- head, then value: the field
 pub field-wrote : {l b c : List ℕ} {at n q r : ℕ} (t : ℕ) (v : List ℕ) → n ≡ length v

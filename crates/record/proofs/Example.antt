@@ -5,14 +5,14 @@ use Prim.Native.Nat.{ℕ}
 use Rattle.site.specs.declared.Site.{Site}
 use Rattle.site.specs.declared.Entry.{Entry}
 use Rattle.site.specs.Bounds.{noEntry}
-use Rattle.field.specs.Field.{table, entryAt, store, entriesBytes, blankSite, value}
+use Rattle.field.specs.Field.{tabulate, entryAt, store, entriesBytes, blankSite, value}
 use Rattle.field.specs.Kind.{fieldRule}
 use Rattle.site.specs.Values.{lengthPermitted, valueRule, standRule, between, nameByte, allOf, entryRanged, risingFrom, sharesOf}
-use Rattle.record.specs.Bytes.{fieldOf}
+use Rattle.record.specs.FieldParts.{fieldOf}
 use Rattle.record.specs.Result.{unless}
-use Rattle.record.specs.Fields.{headRule, walk, encodeFields, encodeAs}
+use Rattle.record.specs.Fields.{headRule, walkFields, encodeFields, encodeAs}
 use Rattle.record.specs.Records.{outerRule, ending, recordIn, onlyOne, single}
-use Rattle.record.specs.Reader.{accepted, readOf}
+use Rattle.record.specs.ReadAnswers.{accepted, readOf}
 use Rattle.record.specs.Outer.{siteAt, readRecord}
 use Rattle.record.specs.Writer.{encode}
 
@@ -63,7 +63,7 @@ siteA1 = record {
 }
 
 pub a1-read : readRecord bytesA1 ≡ accepted siteA1
-unfolding readRecord readOf single onlyOne siteAt recordIn ending outerRule headRule unless walk fieldRule accepted lengthPermitted table entryAt store valueRule standRule between nameByte allOf entryRanged risingFrom sharesOf blankSite
+unfolding readRecord readOf single onlyOne siteAt recordIn ending outerRule headRule unless walkFields fieldRule accepted lengthPermitted tabulate entryAt store valueRule standRule between nameByte allOf entryRanged risingFrom sharesOf blankSite
 a1-read = refl
 
 pub a1-written : encode siteA1 ≡ bytesA1

@@ -10,8 +10,8 @@ use lib.ListN.{length, getD, take, drop, length-append, length-take, length-drop
 use lib.Seq.{drop-cons, take-at, drop-at, drop-drop, getD-drop, getD-take}
 use borrow.Author.Tests.{eq-eqb}
 use Rattle.site.proofs.Tests.{le-or-lt}
-use Rattle.record.specs.Bytes.{fieldOf, statedLen, valueAt, restAt}
-use Rattle.field.specs.Clean.{Bytes}
+use Rattle.record.specs.FieldParts.{fieldOf, statedLen, valueAt, restAt}
+use Rattle.field.specs.Clean.{AllBytes}
 use Rattle.field.proofs.EntryLaws.{word-back}
 
 -- a field
@@ -51,7 +51,7 @@ three bs h =
     let h2 : 2 < length bs = omega arith in
     drop-cons bs 0 0 h0 ∙ ap (λ (r : List ℕ). getD bs 0 0 ∷ r) (drop-cons bs 1 0 h1 ∙ ap (λ (r : List ℕ). getD bs 1 0 ∷ r) (drop-cons bs 2 0 h2))
 
-pub value-bytes : (bs : List ℕ) → Bytes bs → Bytes (valueAt bs)
+pub value-bytes : (bs : List ℕ) → AllBytes bs → AllBytes (valueAt bs)
 value-bytes bs b i =
     let n = statedLen bs in
     ⊎-elim
@@ -61,11 +61,11 @@ value-bytes bs b i =
     (λ (within : i < n). rw (getD-take n (drop 3 bs) i 0, getD-drop) (b (3 + i)))
     (le-or-lt n i)
 
-pub rest-bytes : (bs : List ℕ) → Bytes bs → Bytes (restAt bs)
+pub rest-bytes : (bs : List ℕ) → AllBytes bs → AllBytes (restAt bs)
 rest-bytes bs b i = rw getD-drop (b (3 + statedLen bs + i))
 
 -- bytes that start with a field are the field of its value, and the rest
-module _ (t : ℕ) (bs : List ℕ) (b : Bytes bs) (tag : getD bs 0 0 ≡ t) (inside : 3 + statedLen bs ≤ length bs) where
+module _ (t : ℕ) (bs : List ℕ) (b : AllBytes bs) (tag : getD bs 0 0 ≡ t) (inside : 3 + statedLen bs ≤ length bs) where
   pub field-whole : fieldOf t (valueAt bs) ++ restAt bs ≡ bs
   unfolding fieldOf
   field-whole =

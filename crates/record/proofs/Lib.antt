@@ -10,5 +10,5 @@ pub mod SiteTrips
 pub mod Place
 pub mod SiteFile
 pub mod RoundTrip
-pub mod WriteLaws
+pub mod RecordWritten
 pub mod Example

@@ -15,10 +15,10 @@ use Rattle.record.specs.declared.Read.{Read}
 use Rattle.record.specs.declared.Found.{Found}
 use Rattle.record.specs.declared.Outcome.the-variants.{Accepted, Refused}
 use Rattle.record.specs.Result.{Result, good, fault, unless}
-use Rattle.record.specs.Bytes.{statedLen}
+use Rattle.record.specs.FieldParts.{statedLen}
 use Rattle.record.specs.Fields.{fieldsIn}
 use Rattle.field.specs.Field.{siteKind}
-use Rattle.record.specs.Reader.{refusedAt, accepted, readOf}
+use Rattle.record.specs.ReadAnswers.{refusedAt, accepted, readOf}
 use Rattle.record.specs.Records.{outerRule, ending, recordIn, onlyOne, single}
 use Rattle.record.specs.Outer.{siteTag, siteAt, foundOf, recordAt, readRecord}
 use Rattle.record.proofs.RecordLaws.{outer-passed}
@@ -42,9 +42,14 @@ found-refused at end o (fault k i) e = rw e
 -- ---- the record x of f at offset `at`, as the code makes it
 
 module _ (f : List ℕ) (at : ℕ) where
-  pub outer-past : length f < at → outerRule siteTag (drop at f) ≡ Broken OuterCut
+  pub outer-past : length f ≤ at → outerRule siteTag (drop at f) ≡ Broken OuterCut
   unfolding outerRule
-  outer-past h = let e : drop at f ≡ [] = drop-of-length-le f {i = at} (omega arith) in rw e
+  outer-past h = let e : drop at f ≡ [] = drop-of-length-le f {i = at} h in rw e
+
+  -- no byte is left at the offset
+  pub site-past : length f ≤ at → siteAt f at ≡ fault OuterCut at
+  unfolding siteAt recordIn unless
+  site-past h = rw (outer-past h)
 
   pub outer-inside : outerRule siteTag (drop at f) ≡ Passed → at + 3 + statedLen (drop at f) ≤ length f
   outer-inside e =

@@ -1,5 +1,5 @@
 -- What a site's record says that was accepted in a file.
-use mathlib.Core.Path.{_≡_, refl, ap}
+use mathlib.Core.Path.{_≡_, refl, ap, _∙_}
 use mathlib.Core.List.{List, _++_}
 use Prim.Native.Nat.{ℕ, _+_, _-_, _≤_}
 use native.Mathlib.Omega.{arith}
@@ -11,13 +11,15 @@ use Rattle.site.specs.declared.Checked.the-variants.{Passed}
 use Rattle.site.specs.Check.{siteRule}
 use Rattle.record.specs.declared.Found.{Found}
 use Rattle.record.specs.declared.Outcome.the-variants.{Accepted, Refused}
-use Rattle.record.specs.Result.{Result, good, fault}
+use Rattle.record.specs.Result.{Result, good, fault, resultNumbers}
 use Rattle.field.specs.Field.{siteKind}
 use Rattle.record.specs.Records.{mostRecord, recordIn}
 use Rattle.record.specs.Outer.{outcomeNumbers, siteTag, siteKinds, siteAt, foundOf, recordAt}
-use Rattle.field.specs.Clean.{clean, Sized, Bytes}
+use Rattle.field.specs.Clean.{clean, Sized, AllBytes}
 use Rattle.record.specs.Writer.{encode}
 use Rattle.record.proofs.EncodeLaws.{fields-small}
+use Rattle.record.proofs.ResultLaws.{found-numbers}
+use Rattle.record.proofs.OuterLaws.{site-past}
 use Rattle.record.proofs.RecordLaws.{AcceptedAt, accepted-at, after, inside, near, moved, record-take, record-moved, record-written, record-read}
 use Rattle.record.proofs.SiteTrips.{walked-passes, walked-sized, walked-clean, encode-read, read-encode}
 
@@ -59,7 +61,7 @@ module _ (f : List ℕ) (at : ℕ) {x : Site × ℕ} (e : siteAt f at ≡ good x
   site-clean = walked-clean _ _ _ (here .walked)
 
   -- its bytes are those of its site
-  pub site-bytes : Bytes f → encode (x .0) ≡ take (x .1 - at) (drop at f)
+  pub site-bytes : AllBytes f → encode (x .0) ≡ take (x .1 - at) (drop at f)
   unfolding siteAt
   site-bytes b =
       let tag : getD (drop at f) 0 0 ≡ 82 = eqb-true _ _ (here .outer .tag) in
@@ -92,6 +94,12 @@ module _ (f : List ℕ) (at : ℕ) where
   record-fault o = found-fault at (siteAt f at) o
 
   -- the reader's promises follow from its answer
-  pub found-answers : (x : Found) → Bytes f → x ≡ recordAt f at
-      → (x ≡ recordAt f at) × ((outcomeNumbers (x .outcome) ≡ outcomeNumbers (recordAt f at .outcome)) × (x .outcome ≡ Accepted → encode (x .site) ≡ take (x .next - at) (drop at f)))
-  found-answers x b e = (e, (ap (λ (z : Found). outcomeNumbers (z .outcome)) e, λ o. rw e (site-bytes f at (record-good (rw e at o)) b)))
+  pub found-answers : (x : Found) → AllBytes f → x ≡ recordAt f at
+      → (x ≡ recordAt f at)
+      × ((outcomeNumbers (x .outcome) ≡ resultNumbers (siteAt f at))
+      × ((length f ≤ at → outcomeNumbers (x .outcome) ≡ (2, at))
+      × (x .outcome ≡ Accepted → encode (x .site) ≡ take (x .next - at) (drop at f))))
+  unfolding recordAt resultNumbers
+  found-answers x b e =
+      let numbers : outcomeNumbers (x .outcome) ≡ resultNumbers (siteAt f at) = ap (λ (z : Found). outcomeNumbers (z .outcome)) e ∙ found-numbers at (siteAt f at) in
+      (e, (numbers, (λ past. numbers ∙ rw (site-past f at past), λ o. rw e (site-bytes f at (record-good (rw e at o)) b))))

@@ -18,11 +18,11 @@ use Rattle.site.specs.Choice.{pick}
 use Rattle.site.proofs.Tests.{le-or-lt}
 use Rattle.site.proofs.Passing.{pass-else, pass-then}
 use Rattle.record.specs.Result.{Result, good, fault, unless}
-use Rattle.record.specs.Bytes.{fieldOf, statedLen, valueAt}
+use Rattle.record.specs.FieldParts.{fieldOf, statedLen, valueAt}
 use Rattle.field.specs.Kind.{Kind}
 use Rattle.record.specs.Fields.{fieldsIn, encodeFields, encodeAs}
 use Rattle.record.specs.Records.{mostRecord, outerRule, ending, recordIn, onlyOne, single}
-use Rattle.field.specs.Clean.{Bytes}
+use Rattle.field.specs.Clean.{AllBytes}
 use Rattle.record.proofs.FieldBytes.{stated, field-length, field-first, field-value, value-bytes, field-front, length-whole}
 use Rattle.record.proofs.ResultLaws.{not-good, good-same, unless-good, ending-good, movedResult}
 use Rattle.record.proofs.WalkLaws.{walk-moved}
@@ -166,14 +166,14 @@ module _ {A : Type 0} (known : ℕ → Bool) (kind : ℕ → Kind A) where
     near = omega (arith, accepted-at .next-is, accepted-at .outer .small)
 
     -- it is written again byte for byte, if its fields are
-    pub record-written : Bytes f → (K : Kind A) → kind (getD (drop at f) 0 0) ≡ K → K .tag ≡ getD (drop at f) 0 0
-        → ((bs : List ℕ) (a : ℕ) → Bytes bs → fieldsIn K bs a ≡ good (x .0) → encodeFields K (K .due) (x .0) ≡ bs)
+    pub record-written : AllBytes f → (K : Kind A) → kind (getD (drop at f) 0 0) ≡ K → K .tag ≡ getD (drop at f) 0 0
+        → ((bs : List ℕ) (a : ℕ) → AllBytes bs → fieldsIn K bs a ≡ good (x .0) → encodeFields K (K .due) (x .0) ≡ bs)
         → encodeAs K (x .0) ≡ take (x .1 - at) (drop at f)
     unfolding encodeAs
     record-written b K is tag again =
         let bs = drop at f in
         let o = accepted-at .outer in
-        let c : Bytes bs = λ i. rw getD-drop (b (at + i)) in
+        let c : AllBytes bs = λ i. rw getD-drop (b (at + i)) in
         let v : encodeFields K (K .due) (x .0) ≡ valueAt bs = again (valueAt bs) (at + 3) (value-bytes bs c) (rw is at (accepted-at .walked)) in
         let n : x .1 - at ≡ 3 + statedLen bs = omega (arith, accepted-at .next-is) in
         rw (v, n) (field-front (K .tag) bs c (sym tag) (o .inside))

@@ -8,9 +8,10 @@ use Rattle.site.specs.declared.Checked.{Checked}
 use Rattle.site.specs.declared.Checked.the-variants.{Passed, Broken}
 use Rattle.record.specs.declared.Read.{Read}
 use Rattle.record.specs.declared.Outcome.the-variants.{Accepted, Refused}
-use Rattle.record.specs.Result.{Result, good, fault, unless}
+use Rattle.record.specs.Result.{Result, good, fault, resultNumbers, unless}
 use Rattle.record.specs.Records.{ending}
-use Rattle.record.specs.Reader.{refusedAt, accepted, readOf}
+use Rattle.record.specs.ReadAnswers.{refusedAt, accepted, readOf}
+use Rattle.record.specs.Outer.{outcomeNumbers, foundOf}
 
 module _ {A : Type 0} where
   pub not-good : {P : Type 0} {r : Rule} {at : ℕ} {x : A} → fault r at ≡ good x → P
@@ -42,7 +43,18 @@ module _ {A : Type 0} where
   unless-moved d Passed at r = refl
   unless-moved d (Broken k) at r = refl
 
--- the call's answer
+-- ---- what a call answers, and its numbers
+
+pub read-numbers : (q : Result Site) → outcomeNumbers (readOf q .outcome) ≡ resultNumbers q
+unfolding outcomeNumbers readOf accepted refusedAt resultNumbers
+read-numbers (good s) = refl
+read-numbers (fault r at) = refl
+
+pub found-numbers : (at : ℕ) (q : Result (Site × ℕ)) → outcomeNumbers (foundOf at q .outcome) ≡ resultNumbers q
+unfolding outcomeNumbers foundOf resultNumbers
+found-numbers at (good x) = refl
+found-numbers at (fault r i) = refl
+
 pub read-good : {q : Result Site} {s : Site} → q ≡ good s → readOf q ≡ accepted s
 unfolding readOf
 read-good e = rw e

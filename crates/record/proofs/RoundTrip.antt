@@ -9,17 +9,17 @@ use Rattle.site.specs.declared.Site.{Site}
 use Rattle.site.specs.declared.Checked.the-variants.{Passed}
 use Rattle.site.specs.Check.{siteRule}
 use Rattle.field.specs.Field.{siteKind}
-use Rattle.field.specs.Clean.{clean, Sized, Bytes}
+use Rattle.field.specs.Clean.{clean, Sized, AllBytes}
 use Rattle.record.specs.declared.Read.{Read}
 use Rattle.record.specs.declared.Outcome.{Outcome}
 use Rattle.record.specs.declared.Outcome.the-variants.{Accepted}
-use Rattle.record.specs.Result.{good}
-use Rattle.record.specs.Reader.{accepted}
+use Rattle.record.specs.Result.{good, resultNumbers}
+use Rattle.record.specs.ReadAnswers.{accepted}
 use Rattle.record.specs.Records.{recordIn}
-use Rattle.record.specs.Outer.{outcomeNumbers, siteTag, siteKinds, siteAt, readRecord}
+use Rattle.record.specs.Outer.{outcomeNumbers, siteTag, siteKinds, siteAt, onlySite, readRecord}
 use Rattle.record.specs.Writer.{encode}
 use Rattle.record.proofs.EncodeLaws.{length-encode}
-use Rattle.record.proofs.ResultLaws.{read-good, accepted-good}
+use Rattle.record.proofs.ResultLaws.{read-good, accepted-good, read-numbers}
 use Rattle.record.proofs.RecordLaws.{single-good, good-single}
 use Rattle.record.proofs.Place.{site-passes, site-sized, site-clean, site-bytes, site-read}
 
@@ -53,14 +53,14 @@ module _ (s : Site) (f : List ℕ) (e : readRecord f ≡ accepted s) where
   read-clean = site-clean f 0 whole
 
   -- an accepted record is written again byte for byte
-  pub written-read : Bytes f → encode s ≡ f
+  pub written-read : AllBytes f → encode s ≡ f
   written-read b =
       let n : length f - 0 ≡ length f = omega arith in
       let t : take (length f) f ≡ f = take-all (length f) f (omega arith) in
       rw n at (site-bytes f 0 whole b) ∙ t
 
 -- two different records never read to one site
-pub read-injective : (s : Site) (f g : List ℕ) → Bytes f → Bytes g → readRecord f ≡ accepted s → readRecord g ≡ accepted s → f ≡ g
+pub read-injective : (s : Site) (f g : List ℕ) → AllBytes f → AllBytes g → readRecord f ≡ accepted s → readRecord g ≡ accepted s → f ≡ g
 read-injective s f g b c p q = sym (written-read s f p b) ∙ written-read s g q c
 
 -- ---- the reader's promises follow from its answer
@@ -72,7 +72,8 @@ pub accepted-is : (r : Read) → r .outcome ≡ Accepted → r ≡ accepted (r .
 unfolding accepted
 accepted-is r e = ap (λ (o : Outcome). answerWith o (r .site)) e
 
-pub answered : (f : List ℕ) (r : Read) → Bytes f → r ≡ readRecord f
-    → (r ≡ readRecord f) × ((outcomeNumbers (r .outcome) ≡ outcomeNumbers (readRecord f .outcome)) × (r .outcome ≡ Accepted → encode (r .site) ≡ f))
+pub answered : (f : List ℕ) (r : Read) → AllBytes f → r ≡ readRecord f
+    → (r ≡ readRecord f) × ((outcomeNumbers (r .outcome) ≡ resultNumbers (onlySite f)) × (r .outcome ≡ Accepted → encode (r .site) ≡ f))
+unfolding readRecord
 answered f r b e =
-    (e, (ap (λ (x : Read). outcomeNumbers (x .outcome)) e, λ o. written-read (r .site) f (sym e ∙ accepted-is r o) b))
+    (e, (ap (λ (x : Read). outcomeNumbers (x .outcome)) e ∙ read-numbers (onlySite f), λ o. written-read (r .site) f (sym e ∙ accepted-is r o) b))

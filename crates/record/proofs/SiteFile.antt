@@ -14,7 +14,7 @@ use Rattle.field.specs.Field.{siteKind}
 use Rattle.record.specs.Outer.{siteAt}
 use Rattle.record.specs.Records.{mostRecord}
 use Rattle.record.specs.File.{walkFile, contents, mostFile, encodeAll}
-use Rattle.field.specs.Clean.{clean, Sized, Bytes}
+use Rattle.field.specs.Clean.{clean, Sized, AllBytes}
 use Rattle.record.specs.Writer.{encode}
 use Rattle.field.proofs.All.{All}
 use Rattle.record.proofs.EncodeLaws.{length-encode}
@@ -40,7 +40,7 @@ module _ (f : List ℕ) where
   sites-more m h = contents-more siteAt mostRecord site-take (λ g at x r. site-near g at r) f m (omega arith)
 
   -- a file that passes is the records of its sites, one after another
-  pub sites-written : Bytes f → (ss : List Site) → contents f ≡ good ss → f ≡ encodeAll encode ss
+  pub sites-written : AllBytes f → (ss : List Site) → contents f ≡ good ss → f ≡ encodeAll encode ss
   unfolding contents
   sites-written b ss e = contents-written (siteAt f) encode f (λ at x r. (omega (arith, site-after f at r), site-bytes f at r b)) ss e
 
@@ -53,5 +53,5 @@ sites-read ss ok h l =
     (λ s p f at rest e. rw e (site-read s (p .0) (p .1) rest at)) ss ok h l
 
 -- two different files never hold the same sites
-pub sites-injective : (f g : List ℕ) → Bytes f → Bytes g → (ss : List Site) → contents f ≡ good ss → contents g ≡ good ss → f ≡ g
+pub sites-injective : (f g : List ℕ) → AllBytes f → AllBytes g → (ss : List Site) → contents f ≡ good ss → contents g ≡ good ss → f ≡ g
 sites-injective f g b c ss p q = sites-written f b ss p ∙ sym (sites-written g c ss q)

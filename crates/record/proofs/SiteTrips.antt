@@ -14,11 +14,11 @@ use Rattle.site.specs.Values.{due, countRule, valueRule}
 use Rattle.site.proofs.Passing.{both-passed}
 use Rattle.record.specs.Result.{good}
 use Rattle.record.specs.Fields.{fieldsIn, encodeFields}
-use Rattle.field.specs.Clean.{clean, Sized, Bytes}
+use Rattle.field.specs.Clean.{clean, Sized, AllBytes}
 use Rattle.field.proofs.All.{All, none, _▸_, map-all, zip-all, all-at}
 use Rattle.field.proofs.TableLaws.{table-pad}
 use Rattle.field.proofs.EntryLaws.{word-back, stand-back}
-use Rattle.field.proofs.ValueLaws.{name-long, bytes-long}
+use Rattle.field.proofs.FieldValueLaws.{name-long, bytes-long}
 use Rattle.field.proofs.TagLaws.{Tidy, AsRead, TagLaws, tags, quarter}
 use Rattle.record.proofs.Trips.{every, written-again, storeAll, read-again}
 
@@ -55,7 +55,7 @@ module _ (s : Site) (bs : List ℕ) (at : ℕ) (e : fieldsIn siteKind bs at ≡ 
   walked-clean = rw (all-at as-read 0 0 (omega arith) .tidy .clean, all-at as-read 6 0 (omega arith) .tidy .clean)
 
   -- and is written as it was
-  pub encode-read : Bytes bs → encodeFields siteKind due s ≡ bs
+  pub encode-read : AllBytes bs → encodeFields siteKind due s ≡ bs
   encode-read b = written-again siteKind due 0 refl (map-all (λ t (l : TagLaws t). l .kept) tags) blankSite s bs at b e
 
 -- ---- the fields that are written are read again

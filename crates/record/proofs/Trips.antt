@@ -9,9 +9,9 @@ use borrow.Author.Tests.{ltb-true}
 use Rattle.site.specs.declared.Checked.the-variants.{Passed}
 use Rattle.site.proofs.Tests.{and-l, and-r}
 use Rattle.record.specs.Result.{good, unless}
-use Rattle.record.specs.Bytes.{valueAt, restAt}
-use Rattle.record.specs.Fields.{walk, encodeFields}
-use Rattle.field.specs.Clean.{Bytes}
+use Rattle.record.specs.FieldParts.{valueAt, restAt}
+use Rattle.record.specs.Fields.{walkFields, encodeFields}
+use Rattle.field.specs.Clean.{AllBytes}
 use Rattle.field.specs.Kind.{Kind, fieldRule}
 use Rattle.field.proofs.KindLaws.{Made, Kept}
 use Rattle.field.proofs.All.{All, none, _▸_}
@@ -28,7 +28,7 @@ module _ {A : Type 0} (K : Kind A) where
   -- ---- what later fields leave stays
 
   pub stays : (P : A → Type 0) (t : ℕ) → ((u : ℕ) (v : List ℕ) (x : A) → (u ≡ t → ⊥) → P x → P (K .store u v x))
-      → (ts : List ℕ) (lo : ℕ) → t ≤ lo → rises lo ts ≡ true → (x s : A) (bs : List ℕ) (at : ℕ) → walk K ts x bs at ≡ good s → P x → P s
+      → (ts : List ℕ) (lo : ℕ) → t ≤ lo → rises lo ts ≡ true → (x s : A) (bs : List ℕ) (at : ℕ) → walkFields K ts x bs at ≡ good s → P x → P s
   stays P t other [] lo h r x s bs at e p = subst P (walk-none K x s bs at e .0) p
   stays P t other (u ∷ ts) lo h r x s bs at e p =
       let q = walk-some K u ts x s bs at e in
@@ -36,7 +36,7 @@ module _ {A : Type 0} (K : Kind A) where
       stays P t other ts u (omega arith) (and-r (ltb lo u) (rises u ts) r) _ s _ _ (q .more) (other u _ x (λ i. omega arith) p)
 
   pub every : (P : ℕ → A → Type 0) (ts : List ℕ) (lo : ℕ) → rises lo ts ≡ true → All (λ t. Made K (P t) t) ts
-      → (x s : A) (bs : List ℕ) (at : ℕ) → walk K ts x bs at ≡ good s → All (λ t. P t s) ts
+      → (x s : A) (bs : List ℕ) (at : ℕ) → walkFields K ts x bs at ≡ good s → All (λ t. P t s) ts
   every P [] lo r none x s bs at e = none
   every P (t ∷ ts) lo r (m ▸ ms) x s bs at e =
       let q = walk-some K t ts x s bs at e in
@@ -47,7 +47,7 @@ module _ {A : Type 0} (K : Kind A) where
   -- ---- an accepted record is written again byte for byte
 
   pub written-again : (ts : List ℕ) (lo : ℕ) → rises lo ts ≡ true → All (Kept K) ts
-      → (x s : A) (bs : List ℕ) (at : ℕ) → Bytes bs → walk K ts x bs at ≡ good s → encodeFields K ts s ≡ bs
+      → (x s : A) (bs : List ℕ) (at : ℕ) → AllBytes bs → walkFields K ts x bs at ≡ good s → encodeFields K ts s ≡ bs
   unfolding encodeFields
   written-again [] lo r none x s bs at b e = sym (no-length bs (walk-none K x s bs at e .1))
   written-again (t ∷ ts) lo r (k ▸ ks) x s bs at b e =
@@ -67,8 +67,8 @@ module _ {A : Type 0} (K : Kind A) where
   storeAll (t ∷ ts) s x = storeAll ts s (K .store t (K .bytes t s) x)
 
   pub read-again : (ts : List ℕ) (s x : A) (at : ℕ) → All (λ t. (y : A) → fieldRule K t (K .bytes t s) y ≡ Passed) ts
-      → walk K ts x (encodeFields K ts s) at ≡ good (storeAll ts s x)
-  unfolding walk unless encodeFields storeAll
+      → walkFields K ts x (encodeFields K ts s) at ≡ good (storeAll ts s x)
+  unfolding walkFields unless encodeFields storeAll
   read-again [] s x at none = refl
   read-again (t ∷ ts) s x at (g ▸ gs) =
       let v = K .bytes t s in

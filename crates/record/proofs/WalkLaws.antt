@@ -22,9 +22,9 @@ use Rattle.field.proofs.KindLaws.{field-passed}
 use Rattle.field.proofs.TakenLaws.{taken-site}
 use Rattle.site.proofs.Passing.{pass-else, pass-then}
 use Rattle.record.specs.Result.{good, fault, unless}
-use Rattle.record.specs.Bytes.{statedLen, valueAt, restAt, fieldOf}
+use Rattle.record.specs.FieldParts.{statedLen, valueAt, restAt, fieldOf}
 use Rattle.field.specs.Kind.{Kind, fieldRule}
-use Rattle.record.specs.Fields.{headRule, walk}
+use Rattle.record.specs.Fields.{headRule, walkFields}
 use Rattle.record.proofs.FieldBytes.{stated, field-length, field-tag}
 use Rattle.record.proofs.ResultLaws.{not-good, good-same, unless-good, movedResult, unless-moved}
 
@@ -70,30 +70,30 @@ module _ {A : Type 0} (K : Kind A) where
   -- ---- a step of the walk, at due tag k
 
   module _ (ds : List ℕ) (k : ℕ) (inside : k < length ds) (x : A) (bs : List ℕ) (at : ℕ) where
-    pub walk-head : (r : Rule) → headRule (getD ds k 0) bs ≡ Broken r → walk K (drop k ds) x bs at ≡ fault r at
-    unfolding walk unless
+    pub walk-head : (r : Rule) → headRule (getD ds k 0) bs ≡ Broken r → walkFields K (drop k ds) x bs at ≡ fault r at
+    unfolding walkFields unless
     walk-head r e = rw (drop-cons ds k 0, e)
 
     module _ (ok : headRule (getD ds k 0) bs ≡ Passed) where
-      pub walk-value : (r : Rule) → fieldRule K (getD ds k 0) (valueAt bs) x ≡ Broken r → walk K (drop k ds) x bs at ≡ fault r at
-      unfolding walk unless
+      pub walk-value : (r : Rule) → fieldRule K (getD ds k 0) (valueAt bs) x ≡ Broken r → walkFields K (drop k ds) x bs at ≡ fault r at
+      unfolding walkFields unless
       walk-value r e = rw (drop-cons ds k 0, ok, e)
 
       pub walk-next : fieldRule K (getD ds k 0) (valueAt bs) x ≡ Passed → (y : A) → y ≡ K .store (getD ds k 0) (valueAt bs) x
           → (end : ℕ) → end ≡ 3 + statedLen bs
-          → walk K (drop k ds) x bs at ≡ walk K (drop (k + 1) ds) y (take (length bs - end) (drop end bs)) (at + end)
-      unfolding walk unless
+          → walkFields K (drop k ds) x bs at ≡ walkFields K (drop (k + 1) ds) y (take (length bs - end) (drop end bs)) (at + end)
+      unfolding walkFields unless
       walk-next e y is end isEnd = rw (drop-cons ds k 0, ok, e, is, rest-all, isEnd, add-one k)
 
   -- ---- the end of the walk: no tag is due
 
   module _ (ds : List ℕ) (k : ℕ) (x : A) (bs : List ℕ) (at : ℕ) (past : length ds ≤ k) where
-    pub walk-done : length bs ≡ 0 → walk K (drop k ds) x bs at ≡ good x
-    unfolding walk
+    pub walk-done : length bs ≡ 0 → walkFields K (drop k ds) x bs at ≡ good x
+    unfolding walkFields
     walk-done e = let q : drop k ds ≡ [] = drop-of-length-le ds {i = k} past in rw (q, e)
 
-    pub walk-more : (length bs ≡ 0 → ⊥) → walk K (drop k ds) x bs at ≡ fault InnerTag at
-    unfolding walk
+    pub walk-more : (length bs ≡ 0 → ⊥) → walkFields K (drop k ds) x bs at ≡ fault InnerTag at
+    unfolding walkFields
     walk-more e = let q : drop k ds ≡ [] = drop-of-length-le ds {i = k} past in rw (q, ne-eqb _ _ e)
 
   -- ---- what an accepted walk was
@@ -102,8 +102,8 @@ module _ {A : Type 0} (K : Kind A) where
   end-good true x s at e = (refl, good-same e)
   end-good false x s at e = not-good e
 
-  pub walk-none : (x s : A) (bs : List ℕ) (at : ℕ) → walk K [] x bs at ≡ good s → (x ≡ s) × (length bs ≡ 0)
-  unfolding walk
+  pub walk-none : (x s : A) (bs : List ℕ) (at : ℕ) → walkFields K [] x bs at ≡ good s → (x ≡ s) × (length bs ≡ 0)
+  unfolding walkFields
   walk-none x s bs at e =
       let p = end-good (eqb (length bs) 0) x s at e in
       (p .1, eqb-true (length bs) 0 (p .0))
@@ -111,10 +111,10 @@ module _ {A : Type 0} (K : Kind A) where
   pub record Step (t : ℕ) (ts : List ℕ) (x s : A) (bs : List ℕ) (at : ℕ) : Type 0 where
     pub head : HeadOk t bs
     pub passed : fieldRule K t (valueAt bs) x ≡ Passed
-    pub more : walk K ts (K .store t (valueAt bs) x) (restAt bs) (at + (3 + statedLen bs)) ≡ good s
+    pub more : walkFields K ts (K .store t (valueAt bs) x) (restAt bs) (at + (3 + statedLen bs)) ≡ good s
 
-  pub walk-some : (t : ℕ) (ts : List ℕ) (x s : A) (bs : List ℕ) (at : ℕ) → walk K (t ∷ ts) x bs at ≡ good s → Step t ts x s bs at
-  unfolding walk
+  pub walk-some : (t : ℕ) (ts : List ℕ) (x s : A) (bs : List ℕ) (at : ℕ) → walkFields K (t ∷ ts) x bs at ≡ good s → Step t ts x s bs at
+  unfolding walkFields
   walk-some t ts x s bs at e =
       let p = unless-good (headRule t bs) at _ e in
       let q = unless-good (fieldRule K t (valueAt bs) x) at _ (p .1) in
@@ -127,8 +127,8 @@ module _ {A : Type 0} (K : Kind A) where
   end-moved d true x at r = refl
   end-moved d false x at r = refl
 
-  pub walk-moved : (d : ℕ) (ts : List ℕ) (x : A) (bs : List ℕ) (at : ℕ) → walk K ts x bs (d + at) ≡ movedResult d (walk K ts x bs at)
-  unfolding walk
+  pub walk-moved : (d : ℕ) (ts : List ℕ) (x : A) (bs : List ℕ) (at : ℕ) → walkFields K ts x bs (d + at) ≡ movedResult d (walkFields K ts x bs at)
+  unfolding walkFields
   walk-moved d [] x bs at = end-moved d (eqb (length bs) 0) x at _
   walk-moved d (t ∷ ts) x bs at =
       rw (add-assoc d at (3 + statedLen bs), walk-moved d ts (K .store t (valueAt bs) x) (restAt bs) (at + (3 + statedLen bs)), unless-moved d (fieldRule K t (valueAt bs) x) at)
@@ -145,11 +145,11 @@ module _ (ds : List ℕ) (k : ℕ) (inside : k < length ds) (s : Site) (bs : Lis
   unfolding taken
   said = ap (λ (y : Taken). y .checked) took-value
 
-  pub site-value : (r : Rule) → x .checked ≡ Broken r → walk siteKind (drop k ds) s bs at ≡ fault r at
+  pub site-value : (r : Rule) → x .checked ≡ Broken r → walkFields siteKind (drop k ds) s bs at ≡ fault r at
   site-value r e = walk-value siteKind ds k inside s bs at ok r (sym said ∙ e)
 
   pub site-next : x .checked ≡ Passed
-      → walk siteKind (drop k ds) s bs at ≡ walk siteKind (drop (k + 1) ds) (x .site) (take (length bs - end) (drop end bs)) (at + end)
+      → walkFields siteKind (drop k ds) s bs at ≡ walkFields siteKind (drop (k + 1) ds) (x .site) (take (length bs - end) (drop end bs)) (at + end)
   site-next e =
       let p = field-passed siteKind (getD ds k 0) (valueAt bs) s (sym said ∙ e) in
       let site : x .site ≡ store (getD ds k 0) (valueAt bs) s = ap (λ (y : Taken). y .site) took-value ∙ taken-site (getD ds k 0) (valueAt bs) s (p .0) in

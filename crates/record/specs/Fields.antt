@@ -9,7 +9,7 @@ use Rattle.site.specs.declared.Checked.the-variants.{Passed, Broken}
 use Rattle.site.specs.Choice.{pick}
 use Rattle.field.specs.Kind.{Kind, fieldRule}
 use Rattle.record.specs.Result.{Result, good, fault, unless}
-use Rattle.record.specs.Bytes.{fieldOf, statedLen, valueAt, restAt}
+use Rattle.record.specs.FieldParts.{fieldOf, statedLen, valueAt, restAt}
 
 -- rules 6, 5, 6 and 5, in this order, at bytes bs where the field t is due
 unfoldable pub headRule : ℕ → List ℕ → Checked
@@ -21,16 +21,16 @@ headRule t bs =
     (Broken InnerTag)))
 
 -- ts: the tags still due; x: the value so far; bs: the bytes left, and their offset
-unfoldable pub walk : {A : Type 0} → Kind A → List ℕ → A → List ℕ → ℕ → Result A
-walk K [] x bs at = pick (eqb (length bs) 0) (good x) (fault InnerTag at)
-walk K (t ∷ ts) x bs at =
+unfoldable pub walkFields : {A : Type 0} → Kind A → List ℕ → A → List ℕ → ℕ → Result A
+walkFields K [] x bs at = pick (eqb (length bs) 0) (good x) (fault InnerTag at)
+walkFields K (t ∷ ts) x bs at =
     unless (headRule t bs) at
     (unless (fieldRule K t (valueAt bs) x) at
-    (walk K ts (K .store t (valueAt bs) x) (restAt bs) (at + (3 + statedLen bs))))
+    (walkFields K ts (K .store t (valueAt bs) x) (restAt bs) (at + (3 + statedLen bs))))
 
 -- all fields of a record
 abbrev pub fieldsIn : {A : Type 0} → Kind A → List ℕ → ℕ → Result A
-fieldsIn K bs at = walk K (K .due) (K .blank) bs at
+fieldsIn K bs at = walkFields K (K .due) (K .blank) bs at
 
 unfoldable pub encodeFields : {A : Type 0} → Kind A → List ℕ → A → List ℕ
 encodeFields K [] x = []

@@ -7,7 +7,6 @@ use Rattle.site.specs.Ranges.{mostRecords}
 use Rattle.site.specs.Choice.{pick}
 use Rattle.site.specs.declared.Site.{Site}
 use Rattle.site.specs.declared.Rule.the-variants.{NoBytes, TooMany}
-use Rattle.site.specs.Refusal.{ruleNumber}
 use Rattle.record.specs.Result.{Result, good, fault}
 use Rattle.record.specs.Records.{mostRecord}
 use Rattle.record.specs.Outer.{siteAt}
@@ -44,11 +43,6 @@ mostFile = mostRecords * mostRecord + 1
 -- a file of site records
 unfoldable pub contents : List ℕ → Contents Site
 contents f = contentsBy (siteAt f) (length f)
-
--- number of the first fault and its offset; 0 and 0 where there is none
-unfoldable pub contentsNumbers : {A : Type 0} → Contents A → ℕ × ℕ
-contentsNumbers (good xs) = (0, 0)
-contentsNumbers (fault rule at) = (ruleNumber rule, at)
 
 -- values encoded one after another
 unfoldable pub encodeAll : {A : Type 0} → (A → List ℕ) → List A → List ℕ

@@ -1,8 +1,8 @@
 pub mod Result
-pub mod Bytes
+pub mod FieldParts
 pub mod Fields
 pub mod Records
-pub mod Reader
+pub mod ReadAnswers
 pub mod Outer
 pub mod File
 pub mod Writer

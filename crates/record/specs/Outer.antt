@@ -13,10 +13,10 @@ use Rattle.record.specs.declared.Outcome.the-variants.{Accepted, Refused
 use Rattle.record.specs.Result.{Result, good, fault}
 use Rattle.field.specs.Kind.{Kind}
 use Rattle.field.specs.Field.{siteKind, blankSite}
-use Rattle.record.specs.Reader.{readOf}
+use Rattle.record.specs.ReadAnswers.{readOf}
 use Rattle.record.specs.Records.{recordIn, single}
 
--- number and offset of a refusal; 0 and 0 where there is none
+-- what an outcome says in 01's numbers: rule and offset; 0 and 0 where the record is accepted
 unfoldable pub outcomeNumbers : Outcome → ℕ × ℕ
 outcomeNumbers Accepted = (0, 0)
 outcomeNumbers (Refused r at) = (ruleNumber r, at)
@@ -40,6 +40,9 @@ foundOf at (fault r i) = record { outcome = Refused r i; site = blankSite; next 
 unfoldable pub recordAt : List ℕ → ℕ → Found
 recordAt f at = foundOf at (siteAt f at)
 
--- a file of at most one record
+-- a file of at most one record, and the same as the call gives it
+abbrev pub onlySite : List ℕ → Result Site
+onlySite f = single (siteAt f) (length f)
+
 unfoldable pub readRecord : List ℕ → Read
-readRecord f = readOf (single (siteAt f) (length f))
+readRecord f = readOf (onlySite f)

@@ -9,7 +9,7 @@ use Rattle.site.specs.declared.Checked.{Checked}
 use Rattle.site.specs.declared.Checked.the-variants.{Passed, Broken}
 use Rattle.site.specs.Choice.{pick}
 use Rattle.record.specs.Result.{Result, good, fault, unless}
-use Rattle.record.specs.Bytes.{statedLen, valueAt}
+use Rattle.record.specs.FieldParts.{statedLen, valueAt}
 use Rattle.field.specs.Kind.{Kind}
 use Rattle.record.specs.Fields.{fieldsIn}
 

@@ -4,12 +4,12 @@ use mathlib.Core.List.{List}
 use lib.ListN.{length}
 use Rattle.site.specs.declared.Site.{Site}
 use Rattle.site.specs.declared.Checked.{Checked}
-use Rattle.site.specs.declared.Checked.the-variants.{Passed, Broken}
 use Rattle.site.specs.Refusal.{ruleNumber}
 use Rattle.site.specs.Check.{siteRule}
+use Rattle.site.specs.ByCheck.{answerIf}
 use Rattle.output.specs.Output.{outputRule}
 use Rattle.record.specs.declared.Written.{Written}
-use Rattle.record.specs.declared.Written.the-variants.{Wrote, Refused}
+use Rattle.record.specs.declared.Written.the-variants.{Count, Refused}
 use Rattle.record.specs.Fields.{encodeAs}
 use Rattle.field.specs.Field.{siteKind}
 
@@ -21,11 +21,11 @@ encode s = encodeAs siteKind s
 abbrev pub writeRule : Site → ℕ → Checked
 writeRule s room = outputRule (siteRule s) (length (encode s)) room
 
-unfoldable pub answerOf : Checked → ℕ → Written
-answerOf Passed n = Wrote n
-answerOf (Broken r) n = Refused r
+-- how many bytes were written, or the rule that is broken
+abbrev pub writeAnswer : Checked → ℕ → Written
+writeAnswer c n = answerIf Count Refused c n
 
 -- number of the refusal, or 0; then how many bytes were written, or the offset 0
 unfoldable pub writtenNumbers : Written → ℕ × ℕ
-writtenNumbers (Wrote n) = (0, n)
+writtenNumbers (Count n) = (0, n)
 writtenNumbers (Refused r) = (ruleNumber r, 0)

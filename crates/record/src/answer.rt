@@ -1,12 +1,12 @@
 // A refusal carries the blank site.
 ghost use mathlib.Core.Path.{_≡_};
-ghost use Rattle.record.specs.Reader.{refusedAt};
+ghost use Rattle.record.specs.ReadAnswers.{refusedAt};
 use crate::Outcome;
 use crate::Read;
 use field::blank;
 use site::Rule;
 
-pub fn refused(rule: Rule, at: usize) -> Read
+pub fn refused_read(rule: Rule, at: usize) -> Read
     ensures { λ r. ⌜ r ≡ refusedAt rule at ⌝ }
 {
     let site = blank();

@@ -1,7 +1,7 @@
 // The length that a field states.
 ghost use mathlib.Core.Path.{_≡_};
 ghost use Prim.Native.Nat.{_≤_};
-ghost use Rattle.record.specs.Bytes.{statedLen};
+ghost use Rattle.record.specs.FieldParts.{statedLen};
 use site::byte;
 use site::word;
 

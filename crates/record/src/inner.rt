@@ -4,10 +4,10 @@ ghost use Prim.Native.Nat.{_+_, _<_, _^_};
 ghost use lib.ListN.{length};
 ghost use Rattle.field.specs.Field.{siteKind};
 ghost use Rattle.record.specs.Fields.{headRule, fieldsIn};
-ghost use Rattle.record.specs.Reader.{readOf};
+ghost use Rattle.record.specs.ReadAnswers.{readOf};
 use crate::Outcome;
 use crate::Read;
-use crate::answer::refused;
+use crate::answer::refused_read;
 use crate::bytes::stated_len;
 use field::blank;
 use field::take_field;
@@ -51,7 +51,7 @@ pub fn read_fields(part: &[u8], base: usize) -> Read
         let tag = tags[k];
         match head_rule(rest, tag) {
             Checked::Broken(rule) => {
-                return refused(rule, at);
+                return refused_read(rule, at);
             }
             Checked::Passed => {}
         }
@@ -60,7 +60,7 @@ pub fn read_fields(part: &[u8], base: usize) -> Read
         let checked = x.checked;
         match checked {
             Checked::Broken(rule) => {
-                return refused(rule, at);
+                return refused_read(rule, at);
             }
             Checked::Passed => {}
         }
@@ -73,5 +73,5 @@ pub fn read_fields(part: &[u8], base: usize) -> Read
         let outcome = Outcome::Accepted;
         return Read { outcome, site };
     }
-    refused(Rule::InnerTag, at)
+    refused_read(Rule::InnerTag, at)
 }

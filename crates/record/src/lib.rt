@@ -33,6 +33,6 @@ pub struct Found {
 
 // What came of a write: how many bytes it wrote, or the rule that is broken.
 pub enum Written {
-    Wrote(usize),
+    Count(usize),
     Refused(Rule),
 }

@@ -1,17 +1,17 @@
 // A record of a file, and the file of at most one record.
 ghost use mathlib.Core.Path.{_≡_};
-ghost use Prim.Native.Nat.{ℕ, _-_};
-ghost use lib.ListN.{take, drop};
+ghost use Prim.Native.Nat.{ℕ, _-_, _≤_};
+ghost use lib.ListN.{length, take, drop};
 ghost use Rattle.site.specs.declared.Site.{Site};
-ghost use Rattle.record.specs.Outer.{outcomeNumbers, siteTag, foundOf, recordAt, readRecord};
-ghost use Rattle.record.specs.Reader.{readOf};
+ghost use Rattle.record.specs.Outer.{outcomeNumbers, siteTag, siteAt, foundOf, recordAt, onlySite, readRecord};
+ghost use Rattle.record.specs.ReadAnswers.{readOf};
 ghost use Rattle.record.specs.Records.{outerRule, ending, onlyOne};
-ghost use Rattle.record.specs.Result.{Result};
+ghost use Rattle.record.specs.Result.{Result, resultNumbers};
 ghost use Rattle.record.specs.Writer.{encode};
 use crate::Found;
 use crate::Outcome;
 use crate::Read;
-use crate::answer::refused;
+use crate::answer::refused_read;
 use crate::bytes::stated_len;
 use crate::inner::read_fields;
 use site::Checked;
@@ -43,7 +43,7 @@ fn front_rule(rest: &[u8]) -> Checked
 fn outer_rule(file: &[u8], at: usize) -> Checked
     ensures { λ r. ⌜ r ≡ outerRule siteTag (drop at (now (file .entry))) ⌝ }
 {
-    if file.len() < at {
+    if file.len() <= at {
         return Checked::Broken(Rule::OuterCut);
     }
     front_rule(&file[at..])
@@ -68,15 +68,16 @@ fn found_from(r: Read, at: usize, end: usize) -> Found
     }
 }
 
-// The record whose outer field starts at `at`, which may lie past the end.
+// The record whose outer field starts at `at`. Where no byte is left there, that is an outer field under 3 bytes.
 pub fn read_at(file: &[u8], at: usize) -> Found
     ensures answer { λ r. ⌜ r ≡ recordAt (now (file .entry)) at ⌝ }
-    ensures numbers { λ r. ⌜ outcomeNumbers (r .outcome) ≡ outcomeNumbers (recordAt (now (file .entry)) at .outcome) ⌝ }
+    ensures numbers { λ r. ⌜ outcomeNumbers (r .outcome) ≡ resultNumbers (siteAt (now (file .entry)) at) ⌝ }
+    ensures nothing_there { λ r. ⌜ (length (now (file .entry)) ≤ at → outcomeNumbers (r .outcome) ≡ (2, at)) ⌝ }
     ensures written_again { λ r. ⌜ (r .outcome ≡ Outcome.Accepted → encode (r .site) ≡ take (r .next - at) (drop at (now (file .entry)))) ⌝ }
 {
     match outer_rule(file, at) {
         Checked::Broken(rule) => {
-            return found_from(refused(rule, at), at, at);
+            return found_from(refused_read(rule, at), at, at);
         }
         Checked::Passed => {}
     }
@@ -91,12 +92,12 @@ fn only_one(x: Found, n: usize) -> Read
     let outcome = x.outcome;
     let site = x.site;
     match outcome {
-        Outcome::Refused { rule, at } => refused(rule, at),
+        Outcome::Refused { rule, at } => refused_read(rule, at),
         Outcome::Accepted => {
             if x.next == n {
                 return Read { outcome, site };
             }
-            refused(Rule::TooMany, x.next)
+            refused_read(Rule::TooMany, x.next)
         }
     }
 }
@@ -104,11 +105,11 @@ fn only_one(x: Found, n: usize) -> Read
 // The single record of a file of at most one.
 pub fn read_record(file: &[u8]) -> Read
     ensures answer { λ r. ⌜ r ≡ readRecord (now (file .entry)) ⌝ }
-    ensures numbers { λ r. ⌜ outcomeNumbers (r .outcome) ≡ outcomeNumbers (readRecord (now (file .entry)) .outcome) ⌝ }
+    ensures numbers { λ r. ⌜ outcomeNumbers (r .outcome) ≡ resultNumbers (onlySite (now (file .entry))) ⌝ }
     ensures written_again { λ r. ⌜ (r .outcome ≡ Outcome.Accepted → encode (r .site) ≡ now (file .entry)) ⌝ }
 {
     if file.len() == 0 {
-        return refused(Rule::NoBytes, 0);
+        return refused_read(Rule::NoBytes, 0);
     }
     only_one(read_at(file, 0), file.len())
 }

@@ -4,7 +4,7 @@ ghost use Prim.Native.Nat.{_+_, _/_, _%_, _≤_, _<_};
 ghost use lib.ListN.{length};
 ghost use Rattle.site.specs.Values.{due};
 ghost use Rattle.output.specs.Writing.{Wrote};
-ghost use Rattle.record.specs.Bytes.{fieldOf};
+ghost use Rattle.record.specs.FieldParts.{fieldOf};
 ghost use Rattle.field.specs.Field.{value, siteKind};
 ghost use Rattle.record.specs.Fields.{encodeFields};
 use field::value_of;

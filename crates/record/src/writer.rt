@@ -5,9 +5,9 @@ ghost use lib.ListN.{length, take};
 ghost use Rattle.output.specs.Output.{heldAfter, outputNumbers};
 ghost use Rattle.output.specs.Writing.{Wrote};
 ghost use Rattle.record.specs.Outer.{readRecord};
-ghost use Rattle.record.specs.Reader.{accepted};
+ghost use Rattle.record.specs.ReadAnswers.{accepted};
 ghost use Rattle.field.specs.Clean.{clean};
-ghost use Rattle.record.specs.Writer.{encode, writeRule, answerOf, writtenNumbers};
+ghost use Rattle.record.specs.Writer.{encode, writeRule, writeAnswer, writtenNumbers};
 use crate::Written;
 use crate::put::put_fields;
 use crate::put::put_head;
@@ -35,10 +35,10 @@ fn put_record(buf: &mut [u8], at: usize, site: Site, body: usize) -> usize
 
 // The record of the site at the front of the buffer; a refusal leaves the buffer as it is.
 pub fn write_record(site: Site, buf: &mut [u8]) -> Written
-    ensures answer { λ r. ⌜ r ≡ answerOf (writeRule site (length (now (buf .entry)))) (length (encode site)) ⌝ }
+    ensures answer { λ r. ⌜ r ≡ writeAnswer (writeRule site (length (now (buf .entry)))) (length (encode site)) ⌝ }
     ensures buffer { λ _. ⌜ now (buf .exit) ≡ heldAfter (writeRule site (length (now (buf .entry)))) (encode site) (now (buf .entry)) ⌝ }
     ensures numbers { λ r. ⌜ writtenNumbers r ≡ outputNumbers (writeRule site (length (now (buf .entry)))) (length (encode site)) ⌝ }
-    ensures read_again { λ r. ⌜ ((n : ℕ) → r ≡ Written.Wrote n → readRecord (take n (now (buf .exit))) ≡ accepted (clean site)) ⌝ }
+    ensures read_again { λ r. ⌜ ((n : ℕ) → r ≡ Written.Count n → readRecord (take n (now (buf .exit))) ≡ accepted (clean site)) ⌝ }
 {
     match check_site(site) {
         Checked::Broken(rule) => {
@@ -51,5 +51,5 @@ pub fn write_record(site: Site, buf: &mut [u8]) -> Written
         return Written::Refused(Rule::BufferShort);
     }
     let end = put_record(buf, 0, site, body);
-    Written::Wrote(end)
+    Written::Count(end)
 }

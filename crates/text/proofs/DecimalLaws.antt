@@ -9,7 +9,7 @@ use borrow.Author.Tests.{lt-ltb, le-ltb, ltb-true, ltb-false}
 use lib.Dec.{ltb}
 use lib.ListN.{length, set, length-append}
 use Rattle.output.specs.Writing.{write, Wrote}
-use Rattle.output.proofs.WriteLaws.{write-before}
+use Rattle.output.proofs.WritingLaws.{write-before}
 use Rattle.text.specs.Decimal.{dec, decimal}
 
 pub dec-small : (f n : ℕ) → n < 10 → dec f n ≡ (48 + n) ∷ []

@@ -9,7 +9,7 @@ use Rattle.site.specs.Ranges.{mostRecords}
 use Rattle.judgement.specs.declared.Verdict.{Verdict}
 use Rattle.judgement.specs.declared.Verdict.the-variants.{Within, Over}
 use Rattle.text.specs.declared.Row.{Row}
-use Rattle.text.specs.Most.{mostLine, mostText}
+use Rattle.text.specs.TextLengths.{mostLine, mostText}
 use Rattle.output.specs.Writing.{each}
 use Rattle.judgement.specs.Verdicts.{verdictNumbers, verdictWord}
 use Rattle.text.specs.Line.{noRow, loadNumbers, numbersOf, spaced, column, line, Narrow}

@@ -12,7 +12,7 @@ use Rattle.output.specs.Writing.{each}
 use Rattle.judgement.specs.Verdicts.{verdictWord}
 use Rattle.text.specs.Line.{numbersOf, nameText, spaced, column, body, line}
 use Rattle.text.specs.Listing.{headText, header, listing}
-use Rattle.text.specs.Refusal.{refusal, numbered, refusedWord, atWord}
+use Rattle.text.specs.RefusalLine.{refusal, numbered, refusedWord, atWord}
 
 pub length-line : (r : Row) → length (line r) ≡ length (nameText r) + length (each column (numbersOf r)) + length (verdictWord (r .verdict)) + 2
 unfolding line body spaced

@@ -9,14 +9,14 @@ use Rattle.judgement.specs.declared.Verdict.{Verdict}
 use Rattle.judgement.specs.declared.Verdict.the-variants.{Within, Over}
 use Rattle.text.specs.declared.Row.{Row}
 use Rattle.text.specs.declared.Listed.{Listed}
-use Rattle.text.specs.Most.{mostText}
+use Rattle.text.specs.TextLengths.{mostText}
 use Rattle.text.specs.Decimal.{decimal}
 use Rattle.output.specs.Writing.{each}
 use Rattle.judgement.specs.Verdicts.{verdictWord}
 use Rattle.text.specs.Line.{noRow, numbersOf, nameText, spaced, column, body, line}
 use Rattle.text.specs.Listing.{headText, header, listing}
 use Rattle.output.specs.Output.{heldNumbers, held}
-use Rattle.text.specs.Answer.{listedNumbers, answer, Enough}
+use Rattle.text.specs.TextAnswer.{listedNumbers, textAnswer, RoomEnough}
 use Rattle.text.specs.Words.{split, lastWord, lineAt, free}
 use Rattle.text.specs.Marks.{Plain, Marked}
 use Rattle.text.proofs.TextAnswers.{Answered, written}
@@ -87,6 +87,6 @@ marked rs d e r a n k b p l = rw (written (listing rs) d e r (a .0) (a .1 .0) n 
 
 -- the clauses of a call that lists
 pub and-marked : (rs : List Row) (d : List ℕ) {e : List ℕ} {r : Listed} → Answered mostText (listing rs) d e r
-    → (r ≡ answer (listing rs) d)
-    × ((e ≡ held (listing rs) d) × ((listedNumbers r ≡ heldNumbers (listing rs) d) × (Enough mostText (listing rs) d r × Marked rs e r)))
+    → (r ≡ textAnswer (listing rs) d)
+    × ((e ≡ held (listing rs) d) × ((listedNumbers r ≡ heldNumbers (listing rs) d) × (RoomEnough mostText (listing rs) d r × Marked rs e r)))
 and-marked rs d {e} {r} a = (a .0, (a .1 .0, (a .1 .1 .0, (a .1 .1 .1, marked rs d e r a))))

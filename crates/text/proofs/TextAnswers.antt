@@ -5,42 +5,43 @@ use mathlib.Core.List.{List, _++_}
 use native.Mathlib.Omega.{arith}
 use lib.ListN.{length, take, drop}
 use lib.Seq.{take-append-seam}
+use Rattle.site.specs.ByCheck.{answerIf}
 use Rattle.site.specs.declared.Rule.the-variants.{BufferShort}
 use Rattle.site.specs.declared.Checked.{Checked}
 use Rattle.site.specs.declared.Checked.the-variants.{Passed, Broken}
 use Rattle.output.specs.Writing.{Wrote}
 use Rattle.output.specs.Output.{roomRule, heldAfter, outputNumbers, held, heldNumbers}
-use Rattle.output.proofs.WriteLaws.{in-front}
+use Rattle.output.proofs.WritingLaws.{in-front}
 use Rattle.output.proofs.OutputLaws.{room-enough, room-short}
 use Rattle.text.specs.declared.Listed.{Listed}
-use Rattle.text.specs.declared.Listed.the-variants.{Bytes, Refused}
-use Rattle.text.specs.Answer.{listedNumbers, listedOf, answer, Enough}
+use Rattle.text.specs.declared.Listed.the-variants.{Count, Refused}
+use Rattle.text.specs.TextAnswer.{listedNumbers, textAnswer, RoomEnough}
 
 -- the clauses of a call that writes text into d, where `most` bytes are enough
 abbrev pub Answered : ℕ → List ℕ → List ℕ → List ℕ → Listed → Type 0
-Answered most text d e r = (r ≡ answer text d) × ((e ≡ held text d) × ((listedNumbers r ≡ heldNumbers text d) × Enough most text d r))
+Answered most text d e r = (r ≡ textAnswer text d) × ((e ≡ held text d) × ((listedNumbers r ≡ heldNumbers text d) × RoomEnough most text d r))
 
 pub text-refused : {most : ℕ} (text d : List ℕ) → length d < length text → length text ≤ most → Answered most text d d (Refused BufferShort 0)
-unfolding listedNumbers listedOf heldAfter outputNumbers
+unfolding listedNumbers answerIf heldAfter outputNumbers
 text-refused text d h l =
     let short = room-short (length text) (length d) h in
     (rw short, (rw short, (rw short, λ m. absurd (omega arith))))
 
-pub text-printed : {most : ℕ} {d e : List ℕ} {r : ℕ} (text : List ℕ) → Wrote d 0 text e r → length text ≤ length d → Answered most text d e (Bytes r)
-unfolding listedNumbers listedOf heldAfter outputNumbers
+pub text-printed : {most : ℕ} {d e : List ℕ} {r : ℕ} (text : List ℕ) → Wrote d 0 text e r → length text ≤ length d → Answered most text d e (Count r)
+unfolding listedNumbers answerIf heldAfter outputNumbers
 text-printed {most} {d} {e} {r} text w h =
     let f = in-front w h in
     let long = room-enough (length text) (length d) h in
-    (rw long (ap Bytes (f .0)), (rw long (f .1), (rw long (ap (λ (k : ℕ). (0, k)) (f .0)), λ m. ap Bytes (f .0))))
+    (rw long (ap Count (f .0)), (rw long (f .1), (rw long (ap (λ (k : ℕ). (0, k)) (f .0)), λ m. ap Count (f .0))))
 
 -- where bytes were written, they are the text
-pub written : (text d e : List ℕ) (r : Listed) → r ≡ answer text d → e ≡ held text d → (n : ℕ) → r ≡ Bytes n → take n e ≡ text
-unfolding listedOf heldAfter
+pub written : (text d e : List ℕ) (r : Listed) → r ≡ textAnswer text d → e ≡ held text d → (n : ℕ) → r ≡ Count n → take n e ≡ text
+unfolding answerIf heldAfter
 written text d e r a h n b = go (roomRule (length text) (length d)) refl
   where
     go : (t : Checked) → roomRule (length text) (length d) ≡ t → take n e ≡ text
     go Passed t =
-        let a′ : r ≡ Bytes (length text) = rw t at a in
+        let a′ : r ≡ Count (length text) = rw t at a in
         let h′ : e ≡ text ++ drop (length text) d = rw t at h in
         let n′ : n ≡ length text = cc in
         rw (h′, n′, take-append-seam)

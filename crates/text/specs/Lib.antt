@@ -1,8 +1,8 @@
-pub mod Most
+pub mod TextLengths
 pub mod Decimal
 pub mod Line
 pub mod Listing
-pub mod Refusal
-pub mod Answer
+pub mod RefusalLine
+pub mod TextAnswer
 pub mod Words
 pub mod Marks

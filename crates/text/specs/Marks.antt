@@ -6,7 +6,7 @@ use mathlib.Core.List.{List}
 use lib.ListN.{getD, length, take}
 use Rattle.text.specs.declared.Row.{Row}
 use Rattle.text.specs.declared.Listed.{Listed}
-use Rattle.text.specs.declared.Listed.the-variants.{Bytes}
+use Rattle.text.specs.declared.Listed.the-variants.{Count}
 use Rattle.judgement.specs.Verdicts.{verdictWord}
 use Rattle.text.specs.Line.{nameText, noRow}
 use Rattle.text.specs.Words.{lastWord, lineAt, free}
@@ -18,4 +18,4 @@ Plain rs = (k : ℕ) → k < length rs → free 10 (nameText (getD rs k noRow)) 
 -- in the listing that stands in the first bytes of out, the last word of line k + 1 is the mark of row k
 abbrev pub Marked : List Row → List ℕ → Listed → Type 0
 Marked rs out r =
-    (n k : ℕ) → r ≡ Bytes n → Plain rs → k < length rs → lastWord (lineAt (suc k) (take n out)) ≡ verdictWord (getD rs k noRow .verdict)
+    (n k : ℕ) → r ≡ Count n → Plain rs → k < length rs → lastWord (lineAt (suc k) (take n out)) ≡ verdictWord (getD rs k noRow .verdict)

@@ -21,6 +21,6 @@ pub struct Row {
 
 // How many bytes were written, or the rule that was broken and where.
 pub enum Listed {
-    Bytes(usize),
+    Count(usize),
     Refused { rule: Rule, at: usize },
 }

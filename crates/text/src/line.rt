@@ -2,7 +2,7 @@
 ghost use mathlib.Core.Path.{_≡_};
 ghost use Prim.Native.Nat.{_+_, _≤_};
 ghost use lib.ListN.{length, take};
-ghost use Rattle.text.specs.Most.{mostLine};
+ghost use Rattle.text.specs.TextLengths.{mostLine};
 ghost use Rattle.output.specs.Writing.{Wrote};
 ghost use Rattle.judgement.specs.Verdicts.{verdictWord};
 ghost use Rattle.text.specs.Line.{nameText, spaced, line};

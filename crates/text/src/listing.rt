@@ -2,11 +2,11 @@
 ghost use mathlib.Core.Path.{_≡_};
 ghost use Prim.Native.Nat.{_+_, _≤_};
 ghost use lib.ListN.{length, take};
-ghost use Rattle.text.specs.Most.{mostLines, mostText};
+ghost use Rattle.text.specs.TextLengths.{mostLines, mostText};
 ghost use Rattle.output.specs.Writing.{Wrote, each};
 ghost use Rattle.text.specs.Line.{line};
 ghost use Rattle.output.specs.Output.{heldNumbers, held};
-ghost use Rattle.text.specs.Answer.{listedNumbers, answer, Enough};
+ghost use Rattle.text.specs.TextAnswer.{listedNumbers, textAnswer, RoomEnough};
 ghost use Rattle.text.specs.Listing.{listing};
 ghost use Rattle.text.specs.Marks.{Marked};
 use crate::Listed;
@@ -47,10 +47,10 @@ fn put_lines(out: &mut [u8], at: usize, rows: [Row; 500], count: usize) -> usize
 
 // Writes the listing of the first count rows at the start of out. A buffer that is too short stays as it is.
 pub fn put_listing(out: &mut [u8], rows: [Row; 500], count: usize) -> Listed
-    ensures answer { λ r. ⌜ r ≡ answer (listing (take count rows)) (now (out .entry)) ⌝ }
+    ensures answer { λ r. ⌜ r ≡ textAnswer (listing (take count rows)) (now (out .entry)) ⌝ }
     ensures buffer { λ _. ⌜ now (out .exit) ≡ held (listing (take count rows)) (now (out .entry)) ⌝ }
     ensures numbers { λ r. ⌜ listedNumbers r ≡ heldNumbers (listing (take count rows)) (now (out .entry)) ⌝ }
-    ensures enough { λ r. ⌜ Enough mostText (listing (take count rows)) (now (out .entry)) r ⌝ }
+    ensures enough { λ r. ⌜ RoomEnough mostText (listing (take count rows)) (now (out .entry)) r ⌝ }
     ensures marks { λ r. ⌜ Marked (take count rows) (now (out .exit)) r ⌝ }
 {
     let mut n = count;
@@ -68,5 +68,5 @@ pub fn put_listing(out: &mut [u8], rows: [Row; 500], count: usize) -> Listed
         b"id maxS minN maxN nutN region acidEx nutEx verdict\n",
     );
     let end = put_lines(out, at, rows, n);
-    Listed::Bytes(end)
+    Listed::Count(end)
 }

@@ -1,9 +1,9 @@
 // The line of a refusal.
 ghost use mathlib.Core.Path.{_≡_};
-ghost use Rattle.text.specs.Most.{mostText};
+ghost use Rattle.text.specs.TextLengths.{mostText};
 ghost use Rattle.output.specs.Output.{heldNumbers, held};
-ghost use Rattle.text.specs.Answer.{listedNumbers, answer, Enough};
-ghost use Rattle.text.specs.Refusal.{refusal};
+ghost use Rattle.text.specs.TextAnswer.{listedNumbers, textAnswer, RoomEnough};
+ghost use Rattle.text.specs.RefusalLine.{refusal};
 use crate::Listed;
 use crate::decimal::put_decimal;
 use crate::decimal::width;
@@ -13,10 +13,10 @@ use site::rule_number;
 
 // Writes the line `refused N at M` at the start of out. A buffer that is too short stays as it is.
 pub fn put_refusal(out: &mut [u8], rule: Rule, at: usize) -> Listed
-    ensures answer { λ r. ⌜ r ≡ answer (refusal rule at) (now (out .entry)) ⌝ }
+    ensures answer { λ r. ⌜ r ≡ textAnswer (refusal rule at) (now (out .entry)) ⌝ }
     ensures buffer { λ _. ⌜ now (out .exit) ≡ held (refusal rule at) (now (out .entry)) ⌝ }
     ensures numbers { λ r. ⌜ listedNumbers r ≡ heldNumbers (refusal rule at) (now (out .entry)) ⌝ }
-    ensures enough { λ r. ⌜ Enough mostText (refusal rule at) (now (out .entry)) r ⌝ }
+    ensures enough { λ r. ⌜ RoomEnough mostText (refusal rule at) (now (out .entry)) r ⌝ }
 {
     let number = rule_number(rule);
     let offset = at as u64;
@@ -30,5 +30,5 @@ pub fn put_refusal(out: &mut [u8], rule: Rule, at: usize) -> Listed
     let c = put_bytes(out, b, b" at ");
     let d = put_decimal(out, c, offset);
     out[d] = 10;
-    Listed::Bytes(d + 1)
+    Listed::Count(d + 1)
 }

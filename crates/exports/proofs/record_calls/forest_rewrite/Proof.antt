@@ -10,8 +10,8 @@ read-record-requires c κs = search needs
 enum-known-outcome : tie.Need-enum-known-outcome
 enum-known-outcome c = search needs
 
-refused-at-requires : tie.Need-refused-at-requires
-refused-at-requires c κs = search needs
+refusal-code-at-requires : tie.Need-refusal-code-at-requires
+refusal-code-at-requires c κs = search needs
 
 enum-told : tie.Need-enum-told
 enum-told c = search needs
@@ -22,8 +22,8 @@ write-record-requires c κs = search needs
 enum-known-rule : tie.Need-enum-known-rule
 enum-known-rule c = search needs
 
-refused-requires : tie.Need-refused-requires
-refused-requires c κs = search needs
+refusal-code-requires : tie.Need-refusal-code-requires
+refusal-code-requires c κs = search needs
 
 enum-known-n : tie.Need-enum-known-n
 enum-known-n c = search needs
@@ -32,7 +32,7 @@ returns : tie.Need-returns
 returns c =
     let r = c .before .before .before .before .before in
     let a = r .before .before .before .args in
-    rw (c .refused-at .ensures)
+    rw (c .refusal-code-at .ensures)
     (not-read (now (a .input)) (now (a .out)) (r .read-record .result) (r .read-record .ensures .0) _ _ (c .before .before .outcome .given .1))
 
 same-length : tie.Need-same-length
@@ -43,7 +43,7 @@ returns-2 c =
     let w = c .before .before .before .before .before .before in
     let r = w .before .before .before .before .before in
     let a = r .before .before .before .args in
-    rw (c .refused .ensures)
+    rw (c .refusal-code .ensures)
     (not-written (now (a .input)) (now (a .out)) (r .read-record .result) (r .read-record .ensures .0) (w .before .before .enum-told .given .1)
     (r .read-record .ensures .1 .1 (w .before .before .enum-told .given .1)) (w .write-record .result) _ (w .write-record .ensures .0) (w .write-record .ensures .1 .0) _ (c .before .before .rule .given .1))
 
@@ -64,11 +64,11 @@ forest-rewrite-spec =
     (tie.spec
     read-record-requires
     enum-known-outcome
-    refused-at-requires
+    refusal-code-at-requires
     enum-told
     write-record-requires
     enum-known-rule
-    refused-requires
+    refusal-code-requires
     enum-known-n
     returns
     same-length

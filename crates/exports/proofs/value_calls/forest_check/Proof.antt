@@ -3,7 +3,7 @@ use denote.Ref.{now}
 use Rattle.site.specs.Check.{siteRule}
 use Rattle.exports.specs.Results.{codeIf}
 use Rattle.exports.specs.Layout.{valueCheck}
-use Rattle.exports.proofs.ValueLaws.{wrong-length, as-site}
+use Rattle.exports.proofs.SiteValueLaws.{wrong-length, as-site}
 use borrow.Author.Needs.{needs}
 use Rattle.exports.proofs.value_calls.forest_check.Statement.{statement}
 use Rattle.exports.proofs.value_calls.forest_check.Tie as tie
@@ -13,12 +13,12 @@ site-rule c =
     let b = now (c .before .before .before .before .args .site) in
     as-site b (c .before .before .if1 .left) ∙ rw (c .before .site-in .ensures)
 
-refused-requires : tie.Need-refused-requires
-refused-requires c κs = search needs
+refusal-code-requires : tie.Need-refusal-code-requires
+refusal-code-requires c κs = search needs
 
 returns : tie.Need-returns
 unfolding codeIf
-returns c = rw (wrong-length (now (c .before .before .before .args .site)) (c .before .if1 .taken)) (c .refused .ensures)
+returns c = rw (wrong-length (now (c .before .before .before .args .site)) (c .before .if1 .taken)) (c .refusal-code .ensures)
 
 site-in-requires : tie.Need-site-in-requires
 site-in-requires c κs = search needs
@@ -29,8 +29,8 @@ check-site-requires c κs = search needs
 enum-known-rule : tie.Need-enum-known-rule
 enum-known-rule c = search needs
 
-refused-requires-2 : tie.Need-refused-requires-2
-refused-requires-2 c κs = search needs
+refusal-code-requires-2 : tie.Need-refusal-code-requires-2
+refusal-code-requires-2 c κs = search needs
 
 enum-told : tie.Need-enum-told
 enum-told c = search needs
@@ -39,7 +39,7 @@ returns-2 : tie.Need-returns-2
 unfolding codeIf
 returns-2 c =
     let at = c .before .before .before .before in
-    rw (site-rule at, sym (at .check-site .ensures .0) ∙ c .before .before .rule .given .1) (c .refused2 .ensures)
+    rw (site-rule at, sym (at .check-site .ensures .0) ∙ c .before .before .rule .given .1) (c .refusal-code2 .ensures)
 
 returns-3 : tie.Need-returns-3
 unfolding codeIf
@@ -51,12 +51,12 @@ pub forest-check-spec : {M : Type 1} → statement M
 forest-check-spec =
     tie.close
     (tie.spec
-    refused-requires
+    refusal-code-requires
     returns
     site-in-requires
     check-site-requires
     enum-known-rule
-    refused-requires-2
+    refusal-code-requires-2
     enum-told
     returns-2
     returns-3)

@@ -8,8 +8,8 @@ use Rattle.loads.specs.CriticalLoads.{loadsOf}
 use Rattle.judgement.specs.Answers.{judgedOf}
 use Rattle.judgement.proofs.JudgementAnswers.{judgement-given, judgement-refused}
 use Rattle.exports.specs.Layout.{siteIn, valueCheck, loadsNumbers, judgementNumbers}
-use Rattle.exports.proofs.ValueLaws.{wrong-length, as-site, refused, short, written, length-judged, with-marks}
-use Rattle.output.proofs.WriteLaws.{then}
+use Rattle.exports.proofs.SiteValueLaws.{wrong-length, as-site, value-refused, value-short, value-written, length-judged, with-marks}
+use Rattle.output.proofs.WritingLaws.{then}
 use borrow.Author.Needs.{needs}
 use Rattle.exports.proofs.value_calls.forest_judge.Statement.{statement}
 use Rattle.exports.proofs.value_calls.forest_judge.Tie as tie
@@ -20,15 +20,15 @@ site-rule c =
     let b = now (c .before .before .before .before .before .args .site) in
     as-site b (c .before .before .if1 .left) ∙ rw (c .before .site-in .ensures)
 
-refused-requires : tie.Need-refused-requires
-refused-requires c κs = search needs
+refusal-code-requires : tie.Need-refusal-code-requires
+refusal-code-requires c κs = search needs
 
 returns : tie.Need-returns
 returns c =
     let s = c .before .before .before .before in
     let b = now (s .args .site) in
-    rw (c .refused .ensures)
-    (with-marks b (now (s .args .out)) _ (refused b BadLength 8 (judgementNumbers (siteIn b)) (now (s .args .out)) (wrong-length b (c .before .if1 .taken))))
+    rw (c .refusal-code .ensures)
+    (with-marks b (now (s .args .out)) _ (value-refused b BadLength 8 (judgementNumbers (siteIn b)) (now (s .args .out)) (wrong-length b (c .before .if1 .taken))))
 
 -- the value passed, and this is its judgement
 judged-site :
@@ -48,22 +48,22 @@ judge-requires c κs = search needs
 enum-known-rule : tie.Need-enum-known-rule
 enum-known-rule c = search needs
 
-refused-requires-2 : tie.Need-refused-requires-2
-refused-requires-2 c κs = search needs
+refusal-code-requires-2 : tie.Need-refusal-code-requires-2
+refusal-code-requires-2 c κs = search needs
 
 enum-known-judged : tie.Need-enum-known-judged
 enum-known-judged c = search needs
 
-refused-requires-3 : tie.Need-refused-requires-3
-refused-requires-3 c κs = search needs
+refusal-code-requires-3 : tie.Need-refusal-code-requires-3
+refusal-code-requires-3 c κs = search needs
 
 returns-2 : tie.Need-returns-2
 returns-2 c =
     let at = c .before .before .before .before .before in
     let s = at .before .before .before .before .before in
     let b = now (s .args .site) in
-    rw (c .refused3 .ensures)
-    (with-marks b (now (s .args .out)) _ (short b 8 (judgementNumbers (siteIn b)) (now (s .args .out)) (judged-site (c .before .before) .0) (omega arith)))
+    rw (c .refusal-code3 .ensures)
+    (with-marks b (now (s .args .out)) _ (value-short b 8 (judgementNumbers (siteIn b)) (now (s .args .out)) (judged-site (c .before .before) .0) (omega arith)))
 
 verdict-marked-requires : tie.Need-verdict-marked-requires
 verdict-marked-requires c κs = search needs
@@ -79,8 +79,8 @@ returns-3 c =
     let at = c .before .before .before .before in
     let s = at .before .before .before .before .before in
     let b = now (s .args .site) in
-    rw (c .refused2 .ensures)
-    (with-marks b (now (s .args .out)) _ (refused b _ 8 (judgementNumbers (siteIn b)) (now (s .args .out))
+    rw (c .refusal-code2 .ensures)
+    (with-marks b (now (s .args .out)) _ (value-refused b _ 8 (judgementNumbers (siteIn b)) (now (s .args .out))
     (site-rule at ∙ judgement-refused (at .before .site-in .result) _ (sym (at .judge .ensures .0) ∙ c .before .before .rule .given .1))))
 
 same-length : tie.Need-same-length
@@ -98,21 +98,21 @@ returns-4 c =
     let old = now (s .args .out) in
     let j = judged-site told in
     let w = then (first .put-four .ensures) (second .put-four2 .ensures) in
-    with-marks b old _ (written b 8 (judgementNumbers (siteIn b)) old _ (j .0) (length-judged (siteIn b)) (omega arith)
+    with-marks b old _ (value-written b 8 (judgementNumbers (siteIn b)) old _ (j .0) (length-judged (siteIn b)) (omega arith)
     (rw (j .1) at (rw (marked .verdict-marked .ensures) at w)))
 
 pub forest-judge-spec : {M : Type 1} → statement M
 forest-judge-spec =
     tie.close
     (tie.spec
-    refused-requires
+    refusal-code-requires
     returns
     site-in-requires
     judge-requires
     enum-known-rule
-    refused-requires-2
+    refusal-code-requires-2
     enum-known-judged
-    refused-requires-3
+    refusal-code-requires-3
     returns-2
     verdict-marked-requires
     put-four-requires

@@ -8,7 +8,7 @@ use Rattle.loads.specs.SiteTerms.{termsOf}
 use Rattle.loads.specs.CriticalLoads.{loadsOf}
 use Rattle.loads.proofs.LoadsAnswers.{loads-given, loads-refused}
 use Rattle.exports.specs.Layout.{siteIn, valueCheck, loadsNumbers}
-use Rattle.exports.proofs.ValueLaws.{wrong-length, as-site, refused, short, written}
+use Rattle.exports.proofs.SiteValueLaws.{wrong-length, as-site, value-refused, value-short, value-written}
 use borrow.Author.Needs.{needs}
 use Rattle.exports.proofs.value_calls.forest_loads.Statement.{statement}
 use Rattle.exports.proofs.value_calls.forest_loads.Tie as tie
@@ -19,14 +19,14 @@ site-rule c =
     let b = now (c .before .before .before .before .before .args .site) in
     as-site b (c .before .before .if1 .left) ∙ rw (c .before .site-in .ensures)
 
-refused-requires : tie.Need-refused-requires
-refused-requires c κs = search needs
+refusal-code-requires : tie.Need-refusal-code-requires
+refusal-code-requires c κs = search needs
 
 returns : tie.Need-returns
 returns c =
     let s = c .before .before .before .before in
     let b = now (s .args .site) in
-    rw (c .refused .ensures) (refused b BadLength 4 (loadsNumbers (siteIn b)) (now (s .args .out)) (wrong-length b (c .before .if1 .taken)))
+    rw (c .refusal-code .ensures) (value-refused b BadLength 4 (loadsNumbers (siteIn b)) (now (s .args .out)) (wrong-length b (c .before .if1 .taken)))
 
 -- the value passed, and these are its loads
 loaded :
@@ -46,22 +46,22 @@ critical-loads-requires c κs = search needs
 enum-known-rule : tie.Need-enum-known-rule
 enum-known-rule c = search needs
 
-refused-requires-2 : tie.Need-refused-requires-2
-refused-requires-2 c κs = search needs
+refusal-code-requires-2 : tie.Need-refusal-code-requires-2
+refusal-code-requires-2 c κs = search needs
 
 enum-known-l : tie.Need-enum-known-l
 enum-known-l c = search needs
 
-refused-requires-3 : tie.Need-refused-requires-3
-refused-requires-3 c κs = search needs
+refusal-code-requires-3 : tie.Need-refusal-code-requires-3
+refusal-code-requires-3 c κs = search needs
 
 returns-2 : tie.Need-returns-2
 returns-2 c =
     let at = c .before .before .before .before .before in
     let s = at .before .before .before .before .before in
     let b = now (s .args .site) in
-    rw (c .refused3 .ensures)
-    (short b 4 (loadsNumbers (siteIn b)) (now (s .args .out)) (loaded (c .before .before) .0) (c .before .if2 .taken))
+    rw (c .refusal-code3 .ensures)
+    (value-short b 4 (loadsNumbers (siteIn b)) (now (s .args .out)) (loaded (c .before .before) .0) (c .before .if2 .taken))
 
 put-four-requires : tie.Need-put-four-requires
 put-four-requires c κs = search needs
@@ -71,8 +71,8 @@ returns-3 c =
     let at = c .before .before .before .before in
     let s = at .before .before .before .before .before in
     let b = now (s .args .site) in
-    rw (c .refused2 .ensures)
-    (refused b _ 4 (loadsNumbers (siteIn b)) (now (s .args .out))
+    rw (c .refusal-code2 .ensures)
+    (value-refused b _ 4 (loadsNumbers (siteIn b)) (now (s .args .out))
     (site-rule at ∙ loads-refused (at .before .site-in .result) _ (sym (at .critical-loads .ensures .0) ∙ c .before .before .rule .given .1)))
 
 same-length : tie.Need-same-length
@@ -87,20 +87,20 @@ returns-4 c =
     let b = now (s .args .site) in
     let old = now (s .args .out) in
     let l = loaded told in
-    written b 4 (loadsNumbers (siteIn b)) old _ (l .0) refl (omega arith) (rw (l .1) at (put .put-four .ensures))
+    value-written b 4 (loadsNumbers (siteIn b)) old _ (l .0) refl (omega arith) (rw (l .1) at (put .put-four .ensures))
 
 pub forest-loads-spec : {M : Type 1} → statement M
 forest-loads-spec =
     tie.close
     (tie.spec
-    refused-requires
+    refusal-code-requires
     returns
     site-in-requires
     critical-loads-requires
     enum-known-rule
-    refused-requires-2
+    refusal-code-requires-2
     enum-known-l
-    refused-requires-3
+    refusal-code-requires-3
     returns-2
     put-four-requires
     returns-3

@@ -1,8 +1,8 @@
 use native.Mathlib.Omega.{arith}
 use mathlib.Core.Path.{_≡_}
 use lib.ListN.{length, length-set}
-use Rattle.output.proofs.WriteLaws.{stored, and-stored, ending}
-use Rattle.exports.proofs.ResultLaws.{four}
+use Rattle.output.proofs.WritingLaws.{stored, and-stored, ending}
+use Rattle.exports.proofs.CodeLaws.{four}
 use borrow.Author.Needs.{needs}
 use Rattle.exports.proofs.value_calls.put_four.Statement.{statement}
 use Rattle.exports.proofs.value_calls.put_four.Tie as tie

@@ -1,5 +1,5 @@
 use borrow.Author.Needs.{needs}
-use Rattle.field.specs.Field.{table, store}
+use Rattle.field.specs.Field.{tabulate, store}
 use Rattle.site.specs.Values.{valueRule}
 use Rattle.field.proofs.taking.store_name.Statement.{statement}
 use Rattle.field.proofs.taking.store_name.Tie as tie
@@ -35,7 +35,7 @@ name-rule-requires : tie.Need-name-rule-requires
 name-rule-requires c κs = search needs
 
 returns : tie.Need-returns
-unfolding store table valueRule
+unfolding store tabulate valueRule
 returns c = record { site = cc; checked = c .name-rule .ensures }
 
 pub store-name-spec : {M : Type 1} → statement M

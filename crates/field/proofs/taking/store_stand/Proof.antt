@@ -1,5 +1,5 @@
 use borrow.Author.Needs.{needs}
-use Rattle.field.specs.Field.{table, store}
+use Rattle.field.specs.Field.{tabulate, store}
 use Rattle.site.specs.Values.{valueRule}
 use Rattle.field.proofs.taking.store_stand.Statement.{statement}
 use Rattle.field.proofs.taking.store_stand.Tie as tie
@@ -23,7 +23,7 @@ stand-rule-requires : tie.Need-stand-rule-requires
 stand-rule-requires c κs = search needs
 
 returns : tie.Need-returns
-unfolding store table valueRule
+unfolding store tabulate valueRule
 returns c = record { site = cc; checked = c .stand-rule .ensures }
 
 pub store-stand-spec : {M : Type 1} → statement M

@@ -4,8 +4,8 @@ use native.Mathlib.Omega.{arith}
 use lib.ListN.{length, take}
 use lib.Seq.{length-take-le}
 use borrow.Author.Needs.{needs}
-use Rattle.field.specs.Field.{table}
-use Rattle.field.proofs.ValueLaws.{nameBytes, name-value, capped}
+use Rattle.field.specs.Field.{tabulate}
+use Rattle.field.proofs.FieldValueLaws.{nameBytes, name-value, capped}
 use Rattle.field.proofs.value.name_value.Statement.{statement}
 use Rattle.field.proofs.value.name_value.Tie as tie
 
@@ -37,7 +37,7 @@ array-read-t28 : tie.Need-array-read-t28
 array-read-t28 c = search needs
 
 returns : tie.Need-returns
-unfolding nameBytes table
+unfolding nameBytes tabulate
 returns c =
     let a = c .before .args in
     let z : length (a .name) ≡ 8 = search needs in

@@ -6,8 +6,8 @@ use lib.ListN.{length, take}
 use lib.Seq.{length-take-le}
 use Rattle.site.specs.declared.Entry.{Entry}
 use borrow.Author.Needs.{needs}
-use Rattle.field.specs.Field.{entriesBytes, table}
-use Rattle.field.proofs.ValueLaws.{stand-value, capped}
+use Rattle.field.specs.Field.{entriesBytes, tabulate}
+use Rattle.field.proofs.FieldValueLaws.{stand-value, capped}
 use Rattle.field.proofs.EntryLaws.{length-entries}
 use Rattle.field.proofs.value.stand_value.Statement.{statement}
 use Rattle.field.proofs.value.stand_value.Tie as tie
@@ -65,7 +65,7 @@ lo-requires-4 : tie.Need-lo-requires-4
 lo-requires-4 c κs = search needs
 
 returns : tie.Need-returns
-unfolding entriesBytes table
+unfolding entriesBytes tabulate
 returns c =
     let s = c .before .before .before .before .before .before .before .before .before .before .before .before .before in
     let z = stand-len s in

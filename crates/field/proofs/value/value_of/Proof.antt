@@ -1,7 +1,7 @@
 use borrow.Author.Needs.{needs}
 use Rattle.site.proofs.MatchLaws.{none-below}
 use Rattle.field.specs.Field.{value}
-use Rattle.field.proofs.ValueLaws.{no-value}
+use Rattle.field.proofs.FieldValueLaws.{no-value}
 use Rattle.field.proofs.value.value_of.Statement.{statement}
 use Rattle.field.proofs.value.value_of.Tie as tie
 

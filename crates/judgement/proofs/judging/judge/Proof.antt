@@ -4,7 +4,7 @@ use Rattle.site.specs.Check.{siteRule}
 use Rattle.site.specs.ByCheck.{answerIf}
 use Rattle.site.specs.declared.Site.{Site}
 use Rattle.site.specs.declared.Checked.the-variants.{Passed}
-use Rattle.loads.specs.Most.{mostMaxS}
+use Rattle.loads.specs.MostTerms.{mostMaxS}
 use Rattle.loads.specs.SiteTerms.{termsOf}
 use Rattle.loads.specs.CriticalLoads.{loadsOf}
 use Rattle.loads.proofs.LoadsAnswers.{loads-given, loads-refused}

@@ -5,8 +5,8 @@ use borrow.Author.Needs.{needs}
 use Rattle.listing.proofs.listing.list.Statement.{statement}
 use Rattle.listing.proofs.listing.list.Tie as tie
 
-walk-requires : tie.Need-walk-requires
-walk-requires c κs = search needs
+walk-file-requires : tie.Need-walk-file-requires
+walk-file-requires c κs = search needs
 
 enum-known-o : tie.Need-enum-known-o
 enum-known-o c = search needs
@@ -22,7 +22,7 @@ returns c =
     let w = c .before .before .before in
     let s = w .before .before .before in
     let f = now (s .args .file) in
-    listed-fault f (now (s .args .out)) (found-fault (contents f) (w .walk .ensures .0) (c .before .o .given .1))
+    listed-fault f (now (s .args .out)) (found-fault (contents f) (w .walk-file .ensures .0) (c .before .o .given .1))
 
 same-length : tie.Need-same-length
 same-length c = search needs
@@ -33,14 +33,14 @@ returns-2 c =
     let w = told .before .before in
     let s = w .before .before .before in
     let f = now (s .args .file) in
-    let x = found-sites (contents f) (w .walk .ensures .0) (told .enum-told .given .1) in
+    let x = found-sites (contents f) (w .walk-file .ensures .0) (told .enum-told .given .1) in
     listed-sites f (now (s .args .out)) (x .ss) (x .holds) (by-sites x (now (s .args .out)) (c .before .before .put-listing .ensures))
 
 pub list-spec : {M : Type 1} → statement M
 list-spec =
     tie.close
     (tie.spec
-    walk-requires
+    walk-file-requires
     enum-known-o
     enum-told
     put-listing-requires

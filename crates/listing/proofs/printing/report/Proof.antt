@@ -5,8 +5,8 @@ use borrow.Author.Needs.{needs}
 use Rattle.listing.proofs.printing.report.Statement.{statement}
 use Rattle.listing.proofs.printing.report.Tie as tie
 
-walk-requires : tie.Need-walk-requires
-walk-requires c κs = search needs
+walk-file-requires : tie.Need-walk-file-requires
+walk-file-requires c κs = search needs
 
 enum-known-o : tie.Need-enum-known-o
 enum-known-o c = search needs
@@ -29,7 +29,7 @@ returns c =
     let w = told .before .before in
     let s = w .before .before .before in
     let f = now (s .args .file) in
-    reported-fault f (now (s .args .out)) (found-fault (contents f) (w .walk .ensures .0) (told .o .given .1)) (c .before .before .put-refusal .ensures)
+    reported-fault f (now (s .args .out)) (found-fault (contents f) (w .walk-file .ensures .0) (told .o .given .1)) (c .before .before .put-refusal .ensures)
 
 same-length-2 : tie.Need-same-length-2
 same-length-2 c = search needs
@@ -40,14 +40,14 @@ returns-2 c =
     let w = told .before .before in
     let s = w .before .before .before in
     let f = now (s .args .file) in
-    let x = found-sites (contents f) (w .walk .ensures .0) (told .enum-told .given .1) in
+    let x = found-sites (contents f) (w .walk-file .ensures .0) (told .enum-told .given .1) in
     reported-sites f (now (s .args .out)) (x .ss) (x .holds) (by-sites x (now (s .args .out)) (c .before .before .put-listing .ensures))
 
 pub report-spec : {M : Type 1} → statement M
 report-spec =
     tie.close
     (tie.spec
-    walk-requires
+    walk-file-requires
     enum-known-o
     put-refusal-requires
     enum-told

@@ -1,5 +1,5 @@
 use denote.Ref.{now}
-use Rattle.listing.specs.Listing.{reportOf}
+use Rattle.listing.specs.Reports.{reportOf}
 use Rattle.listing.proofs.ListLaws.{as-answered}
 use Rattle.listing.proofs.ShownLaws.{shown-some, shown-none}
 use borrow.Author.Needs.{needs}

@@ -1,5 +1,5 @@
 use native.Mathlib.Omega.{arith}
-use Rattle.loads.specs.Conditions.{acidLoad}
+use Rattle.loads.specs.LoadsConditions.{acidLoad}
 use borrow.Author.Needs.{needs}
 use Rattle.loads.proofs.critical.acid_load.Statement.{statement}
 use Rattle.loads.proofs.critical.acid_load.Tie as tie

@@ -4,7 +4,7 @@ use mathlib.Core.Path.{_≡_, sym}
 use native.Mathlib.Omega.{arith}
 use native.Mathlib.Numerals.{add-one}
 use Rattle.loads.proofs.UptakeLaws.{sum-none, sum-more}
-use Rattle.loads.specs.Most.{mostNitrogenWeight, mostBaseWeight}
+use Rattle.loads.specs.MostTerms.{mostNitrogenWeight, mostBaseWeight}
 use Rattle.loads.specs.Uptake.{nitrogenIn, baseIn, standSum}
 use Rattle.loads.proofs.uptake.stand_sums.Statement.{statement}
 use Rattle.loads.proofs.uptake.stand_sums.Tie as tie

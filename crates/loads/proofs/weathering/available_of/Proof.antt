@@ -1,7 +1,7 @@
 use native.Mathlib.Omega.{arith}
 use mathlib.Core.Path.{refl}
 use Rattle.site.specs.Ranges.{availableRange}
-use Rattle.loads.specs.Most.{mostWeathering}
+use Rattle.loads.specs.MostTerms.{mostWeathering}
 use Rattle.loads.proofs.Numbers.{prod, part-le}
 use Rattle.loads.proofs.weathering.available_of.Statement.{statement}
 use Rattle.loads.proofs.weathering.available_of.Tie as tie

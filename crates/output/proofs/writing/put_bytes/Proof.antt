@@ -5,7 +5,7 @@ use native.Mathlib.Omega.{arith}
 use lib.ListN.{length, take, length-set}
 use denote.Ref.{now}
 use Rattle.output.specs.Writing.{Wrote}
-use Rattle.output.proofs.WriteLaws.{copy-none, copy-more, copy-all, wrote-none, wrote-some}
+use Rattle.output.proofs.WritingLaws.{copy-none, copy-more, copy-all, wrote-none, wrote-some}
 use Rattle.output.proofs.writing.put_bytes.Statement.{statement}
 use Rattle.output.proofs.writing.put_bytes.Tie as tie
 

@@ -3,7 +3,7 @@ use native.Mathlib.Omega.{arith}
 use denote.Ref.{now}
 use lib.ListN.{length}
 use lib.Seq.{length-take-le}
-use Rattle.program.proofs.OutputLaws.{after-failure, before-the-end, after-the-end}
+use Rattle.program.proofs.PrintingLaws.{after-failure, before-the-end, after-the-end}
 use borrow.Author.Needs.{needs}
 use Rattle.program.proofs.printing.answer.Statement.{statement}
 use Rattle.program.proofs.printing.answer.Tie as tie

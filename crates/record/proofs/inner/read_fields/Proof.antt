@@ -6,17 +6,17 @@ use denote.Ref.{now}
 use borrow.Author.Needs.{needs}
 use Rattle.site.specs.declared.Checked.the-variants.{Passed}
 use Rattle.site.specs.Values.{due}
-use Rattle.record.specs.Bytes.{statedLen}
+use Rattle.record.specs.FieldParts.{statedLen}
 use Rattle.field.specs.Field.{siteKind}
-use Rattle.record.specs.Fields.{headRule, walk, fieldsIn}
-use Rattle.record.specs.Reader.{accepted}
+use Rattle.record.specs.Fields.{headRule, walkFields, fieldsIn}
+use Rattle.record.specs.ReadAnswers.{accepted}
 use Rattle.record.proofs.ResultLaws.{read-good, read-fault}
 use Rattle.record.proofs.WalkLaws.{HeadOk, head-passed, walk-head, walk-done, walk-more, site-value, site-next}
 use Rattle.record.proofs.inner.read_fields.Statement.{statement}
 use Rattle.record.proofs.inner.read_fields.Tie as tie
 
 abbrev Inv-loop : tie.InvT-loop
-Inv-loop part base tags site₀ rest₀ at₀ k₀ site rest at k = (k ≤ 15) × (at + length rest ≡ base + length part) × (fieldsIn siteKind part base ≡ walk siteKind (drop k due) site rest at)
+Inv-loop part base tags site₀ rest₀ at₀ k₀ site rest at k = (k ≤ 15) × (at + length rest ≡ base + length part) × (fieldsIn siteKind part base ≡ walkFields siteKind (drop k due) site rest at)
 
 abbrev μ-loop : tie.MeasureT-loop
 μ-loop part base tags site₀ rest₀ at₀ k₀ site rest at k = 15 - k
@@ -45,13 +45,13 @@ head-rule-requires c κs = search needs
 enum-known-rule : tie.Need-enum-known-rule Inv-loop μ-loop
 enum-known-rule c = search needs
 
-refused-requires : tie.Need-refused-requires Inv-loop μ-loop
-refused-requires c κs = search needs
+refused-read-requires : tie.Need-refused-read-requires Inv-loop μ-loop
+refused-read-requires c κs = search needs
 
 returns : tie.Need-returns Inv-loop μ-loop
 returns c =
     let h = c .before .before .before .before in
-    c .refused .ensures ∙ sym (read-fault (h .before .before .loop .inv .2 ∙ walk-head siteKind due _ (h .before .loop-test .taken) _ _ _ _ (sym (h .head-rule .ensures) ∙ c .before .before .rule .given .1)))
+    c .refused-read .ensures ∙ sym (read-fault (h .before .before .loop .inv .2 ∙ walk-head siteKind due _ (h .before .loop-test .taken) _ _ _ _ (sym (h .head-rule .ensures) ∙ c .before .before .rule .given .1)))
 
 enum-told : tie.Need-enum-told Inv-loop μ-loop
 enum-told c = search needs
@@ -77,15 +77,15 @@ take-field-requires c κs = search needs
 enum-known-checked : tie.Need-enum-known-checked Inv-loop μ-loop
 enum-known-checked c = search needs
 
-refused-requires-2 : tie.Need-refused-requires-2 Inv-loop μ-loop
-refused-requires-2 c κs = search needs
+refused-read-requires-2 : tie.Need-refused-read-requires-2 Inv-loop μ-loop
+refused-read-requires-2 c κs = search needs
 
 returns-2 : tie.Need-returns-2 Inv-loop μ-loop
 returns-2 c =
     let f = c .before .before .before .before in
     let e = f .before .before .before in
     let h = e .before .before in
-    c .refused2 .ensures
+    c .refused-read2 .ensures
     ∙ sym (read-fault (h .before .before .loop .inv .2
     ∙ site-value due _ (h .before .loop-test .taken) _ _ _ (head-is e) _ _ (end-is (f .before .before)) (f .take-field .ensures .0) _ (c .before .before .checked .given .1)))
 
@@ -125,11 +125,11 @@ returns-3 : tie.Need-returns-3 Inv-loop μ-loop
 unfolding accepted
 returns-3 c = sym (read-good (c .before .before .loop .inv .2 ∙ walk-done siteKind due _ _ _ _ (c .before .loop-test .left) (c .if1 .taken)))
 
-refused-requires-3 : tie.Need-refused-requires-3 Inv-loop μ-loop
-refused-requires-3 c κs = search needs
+refused-read-requires-3 : tie.Need-refused-read-requires-3 Inv-loop μ-loop
+refused-read-requires-3 c κs = search needs
 
 returns-4 : tie.Need-returns-4 Inv-loop μ-loop
-returns-4 c = c .refused3 .ensures ∙ sym (read-fault (c .before .before .before .loop .inv .2 ∙ walk-more siteKind due _ _ _ _ (c .before .before .loop-test .left) (c .before .if1 .left)))
+returns-4 c = c .refused-read3 .ensures ∙ sym (read-fault (c .before .before .before .loop .inv .2 ∙ walk-more siteKind due _ _ _ _ (c .before .before .loop-test .left) (c .before .if1 .left)))
 
 pub read-fields-spec : {M : Type 1} → statement M
 read-fields-spec =
@@ -142,7 +142,7 @@ read-fields-spec =
     array-read-tag
     head-rule-requires
     enum-known-rule
-    refused-requires
+    refused-read-requires
     returns
     enum-told
     stated-len-requires
@@ -152,7 +152,7 @@ read-fields-spec =
     part-take-field-end
     take-field-requires
     enum-known-checked
-    refused-requires-2
+    refused-read-requires-2
     returns-2
     enum-told-2
     sub-rest
@@ -163,5 +163,5 @@ read-fields-spec =
     loop-less
     loop-again
     returns-3
-    refused-requires-3
+    refused-read-requires-3
     returns-4)

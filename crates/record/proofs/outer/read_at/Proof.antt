@@ -5,10 +5,10 @@ use lib.ListN.{length-take, length-drop, length, drop}
 use denote.Ref.{now}
 use borrow.Author.Needs.{needs}
 use Rattle.site.specs.declared.Checked.the-variants.{Passed}
-use Rattle.record.specs.Bytes.{statedLen}
+use Rattle.record.specs.FieldParts.{statedLen}
 use Rattle.record.specs.Outer.{siteTag}
 use Rattle.record.specs.Records.{outerRule}
-use Rattle.field.specs.Clean.{Bytes}
+use Rattle.field.specs.Clean.{AllBytes}
 use Rattle.record.proofs.WalkLaws.{rest-all}
 use Rattle.record.proofs.OuterLaws.{outer-inside, record-broken, record-walked}
 use Rattle.record.proofs.Place.{found-answers}
@@ -26,7 +26,7 @@ stated : (c : tie.After-stated-len)
     → c .stated-len .result ≡ statedLen (drop (c .before .before .before .before .before .before .args .at) (now (c .before .before .before .before .before .before .args .file)))
 stated c = rw rest-all at (c .stated-len .ensures .0)
 
-bytes : (c : tie.After-shared-slice-known) → Bytes (now (c .before .args .file))
+bytes : (c : tie.After-shared-slice-known) → AllBytes (now (c .before .args .file))
 bytes c i = omega (arith, c .shared-slice-known .given i)
 
 outer-rule-requires : tie.Need-outer-rule-requires
@@ -35,14 +35,14 @@ outer-rule-requires c κs = search needs
 enum-known-rule : tie.Need-enum-known-rule
 enum-known-rule c = search needs
 
-refused-requires : tie.Need-refused-requires
-refused-requires c κs = search needs
+refused-read-requires : tie.Need-refused-read-requires
+refused-read-requires c κs = search needs
 
 found-from-requires : tie.Need-found-from-requires
 found-from-requires c κs = search needs
 
 returns : tie.Need-returns
-returns c = found-answers _ _ _ (bytes (c .before .before .before .before .before .before)) (record-broken _ _ _ _ _ (sym (c .before .before .before .before .before .outer-rule .ensures) ∙ c .before .before .before .rule .given .1) _ (c .before .refused .ensures) (c .found-from .ensures))
+returns c = found-answers _ _ _ (bytes (c .before .before .before .before .before .before)) (record-broken _ _ _ _ _ (sym (c .before .before .before .before .before .outer-rule .ensures) ∙ c .before .before .before .rule .given .1) _ (c .before .refused-read .ensures) (c .found-from .ensures))
 
 enum-told : tie.Need-enum-told
 enum-told c = search needs
@@ -89,7 +89,7 @@ read-at-spec =
     (tie.spec
     outer-rule-requires
     enum-known-rule
-    refused-requires
+    refused-read-requires
     found-from-requires
     returns
     enum-told

@@ -6,11 +6,11 @@ use Rattle.record.proofs.RoundTrip.{answered}
 use Rattle.record.proofs.outer.read_record.Statement.{statement}
 use Rattle.record.proofs.outer.read_record.Tie as tie
 
-refused-requires : tie.Need-refused-requires
-refused-requires c κs = search needs
+refused-read-requires : tie.Need-refused-read-requires
+refused-read-requires c κs = search needs
 
 returns : tie.Need-returns
-returns c = answered _ _ (λ i. omega (arith, c .before .before .shared-slice-known .given i)) (c .refused .ensures ∙ sym (read-none _ (c .before .if1 .taken)))
+returns c = answered _ _ (λ i. omega (arith, c .before .before .shared-slice-known .given i)) (c .refused-read .ensures ∙ sym (read-none _ (c .before .if1 .taken)))
 
 read-at-requires : tie.Need-read-at-requires
 read-at-requires c κs = search needs
@@ -23,4 +23,4 @@ returns-2 c = answered _ _ (λ i. omega (arith, c .before .before .before .share
 
 pub read-record-spec : {M : Type 1} → statement M
 read-record-spec =
-    tie.close (tie.spec refused-requires returns read-at-requires only-one-requires returns-2)
+    tie.close (tie.spec refused-read-requires returns read-at-requires only-one-requires returns-2)

@@ -5,7 +5,7 @@ use lib.ListN.{length}
 use denote.Ref.{now}
 use borrow.Author.Needs.{needs}
 use Rattle.field.specs.Field.{value}
-use Rattle.record.specs.Bytes.{fieldOf}
+use Rattle.record.specs.FieldParts.{fieldOf}
 use Rattle.record.proofs.EncodeLaws.{field-wrote}
 use Rattle.record.proofs.put.put_field.Statement.{statement}
 use Rattle.record.proofs.put.put_field.Tie as tie

@@ -7,7 +7,7 @@ use borrow.Author.Needs.{needs}
 use Rattle.site.specs.Values.{due}
 use Rattle.field.specs.Field.{siteKind}
 use Rattle.output.specs.Writing.{Wrote, each}
-use Rattle.output.proofs.WriteLaws.{nothing, then, room, kept}
+use Rattle.output.proofs.WritingLaws.{nothing, then, room, kept}
 use Rattle.output.proofs.EachLaws.{each-more, each-fits}
 use Rattle.record.specs.Fields.{encodeFields}
 use Rattle.record.proofs.EncodeLaws.{fieldAt, fields-each}

@@ -6,10 +6,10 @@ use borrow.Author.Needs.{needs}
 use Rattle.site.specs.declared.Checked.the-variants.{Passed}
 use Rattle.site.specs.Check.{siteRule}
 use Rattle.record.specs.Writer.{encode}
-use Rattle.field.proofs.ValueLaws.{unmapped}
+use Rattle.field.proofs.FieldValueLaws.{unmapped}
 use Rattle.record.proofs.EncodeLaws.{record-length}
 use Rattle.field.specs.Clean.{Sized}
-use Rattle.record.proofs.WriteLaws.{write-broken, write-short, write-whole}
+use Rattle.record.proofs.RecordWritten.{write-broken, write-short, write-whole}
 use Rattle.record.proofs.writer.write_record.Statement.{statement}
 use Rattle.record.proofs.writer.write_record.Tie as tie
 

@@ -2,7 +2,7 @@ use borrow.Author.Needs.{needs}
 use native.Mathlib.Omega.{arith}
 use lib.ListN.{length-set}
 use Rattle.text.specs.Line.{column, spaced}
-use Rattle.output.proofs.WriteLaws.{then, stored}
+use Rattle.output.proofs.WritingLaws.{then, stored}
 use Rattle.text.proofs.columns.put_number.Statement.{statement}
 use Rattle.text.proofs.columns.put_number.Tie as tie
 

@@ -7,7 +7,7 @@ use lib.ListN.{length, getD, take}
 use lib.Seq.{take-all}
 use Rattle.output.specs.Writing.{Wrote, each}
 use Rattle.text.specs.Line.{column}
-use Rattle.output.proofs.WriteLaws.{nothing, then, room, kept}
+use Rattle.output.proofs.WritingLaws.{nothing, then, room, kept}
 use Rattle.output.proofs.EachLaws.{each-more, each-fits}
 use Rattle.text.proofs.columns.put_numbers.Statement.{statement}
 use Rattle.text.proofs.columns.put_numbers.Tie as tie

@@ -9,7 +9,7 @@ use lib.ListN.{length, length-set}
 use Rattle.output.specs.Writing.{Wrote, each}
 use Rattle.judgement.specs.Verdicts.{verdictWord}
 use Rattle.text.specs.Line.{nameText, spaced, column, body, line}
-use Rattle.output.proofs.WriteLaws.{then, stored}
+use Rattle.output.proofs.WritingLaws.{then, stored}
 use Rattle.text.proofs.LineLaws.{length-line}
 use Rattle.text.proofs.line.put_line.Statement.{statement}
 use Rattle.text.proofs.line.put_line.Tie as tie

@@ -3,7 +3,7 @@ use mathlib.Core.Path.{_≡_}
 use native.Mathlib.Omega.{arith}
 use borrow.Author.Needs.{needs}
 use lib.ListN.{length, take}
-use Rattle.text.specs.Most.{mostLine}
+use Rattle.text.specs.TextLengths.{mostLine}
 use Rattle.text.specs.Line.{noRow, line}
 use Rattle.output.specs.Writing.{each}
 use Rattle.output.proofs.EachLaws.{length-more}

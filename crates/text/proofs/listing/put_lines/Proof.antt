@@ -6,7 +6,7 @@ use lib.ListN.{length, getD, take}
 use borrow.Author.Needs.{needs}
 use Rattle.output.specs.Writing.{Wrote, each}
 use Rattle.text.specs.Line.{noRow, line}
-use Rattle.output.proofs.WriteLaws.{nothing, then, room, kept}
+use Rattle.output.proofs.WritingLaws.{nothing, then, room, kept}
 use Rattle.output.proofs.EachLaws.{each-more, each-room}
 use Rattle.text.proofs.listing.put_lines.Statement.{statement}
 use Rattle.text.proofs.listing.put_lines.Tie as tie

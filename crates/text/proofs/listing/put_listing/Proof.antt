@@ -10,7 +10,7 @@ use lib.Seq.{take-all}
 use Rattle.output.specs.Writing.{Wrote, each}
 use Rattle.text.specs.Line.{line}
 use Rattle.text.specs.Listing.{headText, header, listing}
-use Rattle.output.proofs.WriteLaws.{then, room}
+use Rattle.output.proofs.WritingLaws.{then, room}
 use Rattle.text.proofs.MarkLaws.{and-marked}
 use Rattle.text.proofs.LineLaws.{length-listing}
 use Rattle.text.proofs.TextAnswers.{text-refused, text-printed}

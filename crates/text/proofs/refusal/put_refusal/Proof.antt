@@ -3,8 +3,8 @@ use mathlib.Core.Path.{_≡_}
 use native.Mathlib.Omega.{arith}
 use denote.Ref.{now}
 use lib.ListN.{length, length-set}
-use Rattle.text.specs.Refusal.{numbered, refusedWord, atWord}
-use Rattle.output.proofs.WriteLaws.{then, stored}
+use Rattle.text.specs.RefusalLine.{numbered, refusedWord, atWord}
+use Rattle.output.proofs.WritingLaws.{then, stored}
 use Rattle.text.proofs.LineLaws.{length-refusal, refusal-is}
 use Rattle.text.proofs.TextAnswers.{text-refused, text-printed}
 use borrow.Author.Needs.{needs}

@@ -10,8 +10,8 @@ use Rattle.record.specs.File.{contents}
 use Rattle.listing.specs.Rows.{padded}
 use Rattle.record.proofs.SiteFile.{sites-none}
 use Rattle.listing.proofs.LoopLaws.{So, so-start, so-end, so-full, turn-bad, turn-good, turn-on, with-numbers, with-fault}
-use Rattle.listing.proofs.walking.walk.Statement.{statement}
-use Rattle.listing.proofs.walking.walk.Tie as tie
+use Rattle.listing.proofs.walking.walk_file.Statement.{statement}
+use Rattle.listing.proofs.walking.walk_file.Tie as tie
 
 abbrev Inv-loop : tie.InvT-loop
 Inv-loop file rows₀ count₀ at₀ rows count at = (at ≤ length file) × (count ≤ mostRecords) × (length rows ≡ mostRecords) × So file rows count at
@@ -19,11 +19,11 @@ Inv-loop file rows₀ count₀ at₀ rows count at = (at ≤ length file) × (co
 abbrev μ-loop : tie.MeasureT-loop
 μ-loop file rows₀ count₀ at₀ rows count at = length file - at
 
-refused-requires : tie.Need-refused-requires Inv-loop μ-loop
-refused-requires c κs = search needs
+refused-rows-requires : tie.Need-refused-rows-requires Inv-loop μ-loop
+refused-rows-requires c κs = search needs
 
 returns : tie.Need-returns Inv-loop μ-loop
-returns c = with-fault (sites-none (now (c .before .before .before .args .file)) (omega arith)) (c .refused .ensures)
+returns c = with-fault (sites-none (now (c .before .before .before .args .file)) (omega arith)) (c .refused-rows .ensures)
 
 blank-row-requires : tie.Need-blank-row-requires Inv-loop μ-loop
 blank-row-requires c κs = search needs
@@ -32,11 +32,11 @@ loop-holds : tie.Need-loop-holds Inv-loop μ-loop
 unfolding padded
 loop-holds c = (omega arith, omega arith, refl, rw (c .blank-row .ensures) (so-start (now (c .before .before .before .args .file)) (omega arith)))
 
-refused-requires-2 : tie.Need-refused-requires-2 Inv-loop μ-loop
-refused-requires-2 c κs = search needs
+refused-rows-requires-2 : tie.Need-refused-rows-requires-2 Inv-loop μ-loop
+refused-rows-requires-2 c κs = search needs
 
 returns-2 : tie.Need-returns-2 Inv-loop μ-loop
-returns-2 c = with-fault (so-full (c .before .before .before .loop .inv .3) (c .before .before .loop-test .taken) (omega arith)) (c .refused2 .ensures)
+returns-2 c = with-fault (so-full (c .before .before .before .loop .inv .3) (c .before .before .loop-test .taken) (omega arith)) (c .refused-rows2 .ensures)
 
 turn-requires : tie.Need-turn-requires Inv-loop μ-loop
 turn-requires c κs = search needs
@@ -44,14 +44,14 @@ turn-requires c κs = search needs
 enum-known-o : tie.Need-enum-known-o Inv-loop μ-loop
 enum-known-o c = search needs
 
-refused-requires-3 : tie.Need-refused-requires-3 Inv-loop μ-loop
-refused-requires-3 c κs = search needs
+refused-rows-requires-3 : tie.Need-refused-rows-requires-3 Inv-loop μ-loop
+refused-rows-requires-3 c κs = search needs
 
 returns-3 : tie.Need-returns-3 Inv-loop μ-loop
 returns-3 c =
     let t = c .before .before .before .before in
     with-fault (turn-bad (t .before .before .before .loop .inv .3) (t .before .before .loop-test .taken) (t .before .if2 .left) (t .turn .ensures) (c .before .before .o .given .1))
-    (c .refused3 .ensures)
+    (c .refused-rows3 .ensures)
 
 enum-told : tie.Need-enum-told Inv-loop μ-loop
 enum-told c = search needs
@@ -87,21 +87,21 @@ returns-4 c =
     let s = c .before .before .before .before .before in
     with-numbers (contents (now (s .args .file))) (so-end (c .before .loop .inv .3) (c .loop-test .left))
 
-pub walk-spec : {M : Type 1} → statement M
-walk-spec =
+pub walk-file-spec : {M : Type 1} → statement M
+walk-file-spec =
     tie.close
     (tie.spec
     Inv-loop
     μ-loop
-    refused-requires
+    refused-rows-requires
     returns
     blank-row-requires
     loop-holds
-    refused-requires-2
+    refused-rows-requires-2
     returns-2
     turn-requires
     enum-known-o
-    refused-requires-3
+    refused-rows-requires-3
     returns-3
     enum-told
     mul-rows

@@ -8,7 +8,7 @@ use Rattle.judgement.specs.Balance.{Says}
 use Rattle.judgement.specs.Less.{Less, Stays}
 use Rattle.field.specs.Field.{blankSite}
 use Rattle.text.specs.declared.Listed.{Listed}
-use Rattle.text.specs.declared.Listed.the-variants.{Bytes}
+use Rattle.text.specs.declared.Listed.the-variants.{Count}
 use Rattle.text.specs.Words.{lastWord, lineAt}
 use Rattle.record.specs.Result.{good}
 use Rattle.record.specs.File.{contents}
@@ -20,13 +20,13 @@ Demand3 f t = (ss : List Site) → contents f ≡ good ss → (k : ℕ) → k < 
 
 -- the same of the text that a call has written into a buffer
 abbrev pub Written3 : List ℕ → List ℕ → Listed → Type 0
-Written3 f out r = (n : ℕ) → r ≡ Bytes n → Demand3 f (take n out)
+Written3 f out r = (n : ℕ) → r ≡ Count n → Demand3 f (take n out)
 
 -- Less deposition is never worse: record k of a file f and record l of a file g, files that the checks let pass; the two records are one site,
 -- the second with as much or less sulphur and as much or less nitrogen. Where the last word of the first one's line in the text x is `within`,
 -- so is that of the second one's line in the text y, and it is not `over`.
-abbrev pub NeverWorse : (f x g y : List ℕ) → Type 0
-NeverWorse f x g y =
+abbrev pub PrintedNeverWorse : (f x g y : List ℕ) → Type 0
+PrintedNeverWorse f x g y =
     (ss ts : List Site) → contents f ≡ good ss → contents g ≡ good ts → (k l : ℕ) → k < length ss → l < length ts
     → Less (getD ss k blankSite) (getD ts l blankSite)
     → Stays (lastWord (lineAt (suc k) x)) (lastWord (lineAt (suc l) y))

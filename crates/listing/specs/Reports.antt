@@ -6,9 +6,9 @@ use Rattle.site.specs.Refusal.{ruleNumber}
 use Rattle.text.specs.declared.Listed.{Listed}
 use Rattle.text.specs.declared.Listed.the-variants.{Refused}
 use Rattle.text.specs.Listing.{listing}
-use Rattle.text.specs.Refusal.{refusal}
+use Rattle.text.specs.RefusalLine.{refusal}
 use Rattle.output.specs.Output.{roomRule, outputCount, held, heldNumbers}
-use Rattle.text.specs.Answer.{answer}
+use Rattle.text.specs.TextAnswer.{textAnswer}
 use Rattle.site.specs.declared.Site.{Site}
 use Rattle.record.specs.Result.{good, fault}
 use Rattle.record.specs.File.{Contents, contents}
@@ -16,7 +16,7 @@ use Rattle.listing.specs.Rows.{rowOf}
 
 -- the listing of a file into d: the first fault, else 11 or how many bytes
 unfoldable pub listAnswer : Contents Site → List ℕ → Listed
-listAnswer (good ss) d = answer (listing (map rowOf ss)) d
+listAnswer (good ss) d = textAnswer (listing (map rowOf ss)) d
 listAnswer (fault rule at) d = Refused rule at
 
 unfoldable pub listNumbers : Contents Site → List ℕ → ℕ × ℕ

@@ -21,7 +21,7 @@ use Rattle.judgement.proofs.Demand3.{verdict-tells}
 use Rattle.judgement.proofs.AtSites.{site-bounds}
 use Rattle.output.specs.Output.{outputRule, heldAfter}
 use Rattle.output.specs.Writing.{Wrote}
-use Rattle.output.proofs.WriteLaws.{in-front}
+use Rattle.output.proofs.WritingLaws.{in-front}
 use Rattle.output.proofs.OutputLaws.{output-broken, output-short, output-whole}
 use Rattle.exports.specs.Results.{refusalCode, codeIf}
 use Rattle.exports.specs.Layout.{siteIn, valueCheck, loadsNumbers, markNumber, verdictMarked, judgementNumbers}
@@ -36,25 +36,25 @@ module _ (b : List ℕ) where
   as-site h = rw (eq-eqb (length b) 50 h)
 
   -- a refusal of the value
-  pub refused : (r : Rule) (needed : ℕ) (xs old : List ℕ) → valueCheck b ≡ Broken r
+  pub value-refused : (r : Rule) (needed : ℕ) (xs old : List ℕ) → valueCheck b ≡ Broken r
       → (refusalCode r 0 ≡ codeIf (outputRule (valueCheck b) needed (length old)) needed)
       × (old ≡ heldAfter (outputRule (valueCheck b) needed (length old)) xs old)
   unfolding codeIf heldAfter
-  refused r needed xs old e = rw (output-broken needed (length old) (valueCheck b) r e) (refl, refl)
+  value-refused r needed xs old e = rw (output-broken needed (length old) (valueCheck b) r e) (refl, refl)
 
   -- a slice that is too short
-  pub short : (needed : ℕ) (xs old : List ℕ) → valueCheck b ≡ Passed → length old < needed
+  pub value-short : (needed : ℕ) (xs old : List ℕ) → valueCheck b ≡ Passed → length old < needed
       → (refusalCode BufferShort 0 ≡ codeIf (outputRule (valueCheck b) needed (length old)) needed)
       × (old ≡ heldAfter (outputRule (valueCheck b) needed (length old)) xs old)
   unfolding codeIf heldAfter
-  short needed xs old e h = rw (output-short needed (length old) (valueCheck b) e h) (refl, refl)
+  value-short needed xs old e h = rw (output-short needed (length old) (valueCheck b) e h) (refl, refl)
 
   -- success
-  pub written : {r : ℕ} (needed : ℕ) (xs old new : List ℕ) → valueCheck b ≡ Passed → length xs ≡ needed → needed ≤ length old → Wrote old 0 xs new r
+  pub value-written : {r : ℕ} (needed : ℕ) (xs old new : List ℕ) → valueCheck b ≡ Passed → length xs ≡ needed → needed ≤ length old → Wrote old 0 xs new r
       → (needed ≡ codeIf (outputRule (valueCheck b) needed (length old)) needed)
       × (new ≡ heldAfter (outputRule (valueCheck b) needed (length old)) xs old)
   unfolding codeIf heldAfter
-  written needed xs old new e l h w = rw (output-whole needed (length old) (valueCheck b) e h) (refl, in-front w (omega arith) .1)
+  value-written needed xs old new e l h w = rw (output-whole needed (length old) (valueCheck b) e h) (refl, in-front w (omega arith) .1)
 
 pub length-marked : (v : Verdict) → length (verdictMarked v) ≡ 4
 unfolding verdictMarked verdictNumbers

@@ -1,7 +1,7 @@
 use Rattle.listing.specs.Rows.{padded, walkedOf}
 use borrow.Author.Needs.{needs}
-use Rattle.listing.proofs.walking.refused.Statement.{statement}
-use Rattle.listing.proofs.walking.refused.Tie as tie
+use Rattle.listing.proofs.walking.refused_rows.Statement.{statement}
+use Rattle.listing.proofs.walking.refused_rows.Tie as tie
 
 blank-row-requires : tie.Need-blank-row-requires
 blank-row-requires c κs = search needs
@@ -10,5 +10,5 @@ returns : tie.Need-returns
 unfolding walkedOf padded
 returns c = rw (c .blank-row .ensures)
 
-pub refused-spec : {M : Type 1} → statement M
-refused-spec = tie.close (tie.spec blank-row-requires returns)
+pub refused-rows-spec : {M : Type 1} → statement M
+refused-rows-spec = tie.close (tie.spec blank-row-requires returns)

@@ -1,9 +1,9 @@
 use native.Mathlib.Omega.{arith}
 use Rattle.exports.specs.Results.{refusalCode}
-use Rattle.exports.proofs.ResultLaws.{number-le}
+use Rattle.exports.proofs.CodeLaws.{number-le}
 use borrow.Author.Needs.{needs}
-use Rattle.exports.proofs.codes.refused_at.Statement.{statement}
-use Rattle.exports.proofs.codes.refused_at.Tie as tie
+use Rattle.exports.proofs.codes.refusal_code_at.Statement.{statement}
+use Rattle.exports.proofs.codes.refusal_code_at.Tie as tie
 
 rule-number-requires : tie.Need-rule-number-requires
 rule-number-requires c κs = search needs
@@ -18,5 +18,5 @@ returns : tie.Need-returns
 unfolding refusalCode
 returns c = rw (c .rule-number .ensures)
 
-pub refused-at-spec : {M : Type 1} → statement M
-refused-at-spec = tie.close (tie.spec rule-number-requires mul-result add-result returns)
+pub refusal-code-at-spec : {M : Type 1} → statement M
+refusal-code-at-spec = tie.close (tie.spec rule-number-requires mul-result add-result returns)

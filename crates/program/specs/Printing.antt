@@ -3,7 +3,7 @@ use Prim.Native.Nat.{ℕ}
 use mathlib.Core.Path.{_≡_}
 use mathlib.Core.List.{List, []}
 use lib.ListN.{length, take}
-use Rattle.listing.specs.Listing.{reportOf}
+use Rattle.listing.specs.Reports.{reportOf}
 use Rattle.program.specs.declared.Reading.{Reading}
 use Rattle.program.specs.declared.Reading.the-variants.{More, Ended, Failed}
 

@@ -4,7 +4,7 @@ use mathlib.Core.Path.{_≡_}
 use mathlib.Core.List.{List, [], _∷_}
 use native.Mathlib.Omega.{arith}
 use lib.ListN.{length, getD}
-use Rattle.field.specs.Field.{table}
+use Rattle.field.specs.Field.{tabulate}
 use Rattle.field.proofs.TableLaws.{table-getD}
 use Rattle.site.specs.Refusal.{ruleNumber}
 use Rattle.site.specs.declared.Rule.{Rule}
@@ -25,5 +25,5 @@ number-le BufferShort = omega arith
 
 -- an array of four numbers
 pub four : (l : List ℕ) → length l ≡ 4 → getD l 0 0 ∷ getD l 1 0 ∷ getD l 2 0 ∷ getD l 3 0 ∷ [] ≡ l
-unfolding table
+unfolding tabulate
 four l e = rw e at (table-getD l 0)

@@ -5,6 +5,7 @@ use Prim.Native.Nat.{ℕ, _≤_, _<_}
 use native.Mathlib.Omega.{arith}
 use lib.ListN.{length, take, drop}
 use lib.Seq.{take-at}
+use Rattle.site.specs.ByCheck.{answerIf}
 use Rattle.site.specs.declared.Site.{Site}
 use Rattle.site.specs.declared.Rule.{Rule}
 use Rattle.site.specs.declared.Rule.the-variants.{BufferShort}
@@ -13,14 +14,14 @@ use Rattle.site.specs.declared.Checked.the-variants.{Passed, Broken}
 use Rattle.site.specs.Check.{siteRule}
 use Rattle.site.proofs.Passing.{both-passed}
 use Rattle.record.specs.declared.Written.{Written}
-use Rattle.record.specs.declared.Written.the-variants.{Wrote, Refused}
-use Rattle.record.specs.Reader.{accepted}
+use Rattle.record.specs.declared.Written.the-variants.{Count, Refused}
+use Rattle.record.specs.ReadAnswers.{accepted}
 use Rattle.record.specs.Outer.{readRecord}
 use Rattle.field.specs.Clean.{clean, Sized}
-use Rattle.record.specs.Writer.{encode, writeRule, answerOf, writtenNumbers}
+use Rattle.record.specs.Writer.{encode, writeRule, writeAnswer, writtenNumbers}
 use Rattle.output.specs.Output.{outputRule, heldAfter, outputNumbers}
-use Rattle.output.specs.Writing.{Wrote as Run}
-use Rattle.output.proofs.WriteLaws.{in-front}
+use Rattle.output.specs.Writing.{Wrote}
+use Rattle.output.proofs.WritingLaws.{in-front}
 use Rattle.output.proofs.OutputLaws.{output-broken, output-short, output-whole}
 use Rattle.record.proofs.RoundTrip.{read-written}
 
@@ -31,40 +32,40 @@ module _ (s : Site) (z : Sized s) (old : List ℕ) where
   -- answer, buffer, numbers, and that the record is read again
   abbrev Promises : Written → List ℕ → Type 0
   Promises w new =
-      (w ≡ answerOf rule (length (encode s)))
+      (w ≡ writeAnswer rule (length (encode s)))
       × ((new ≡ heldAfter rule (encode s) old)
       × ((writtenNumbers w ≡ outputNumbers rule (length (encode s)))
-      × ((n : ℕ) → w ≡ Wrote n → readRecord (take n new) ≡ accepted (clean s))))
+      × ((n : ℕ) → w ≡ Count n → readRecord (take n new) ≡ accepted (clean s))))
 
-  read-again : (c : Checked) → rule ≡ c → (n : ℕ) → answerOf c (length (encode s)) ≡ Wrote n → readRecord (take n (heldAfter c (encode s) old)) ≡ accepted (clean s)
-  unfolding outputRule answerOf heldAfter
+  read-again : (c : Checked) → rule ≡ c → (n : ℕ) → writeAnswer c (length (encode s)) ≡ Count n → readRecord (take n (heldAfter c (encode s) old)) ≡ accepted (clean s)
+  unfolding outputRule answerIf heldAfter
   read-again Passed e n w =
       let l : length (encode s) ≡ n = cc in
       rw (take-at (encode s) (drop (length (encode s)) old) n l) (read-written s z (both-passed _ _ e .0))
   read-again (Broken r) e n w = let q : _≡_ {A = ℕ} 0 1 = cc in absurd (omega arith)
 
-  numbers-of : (c : Checked) (n : ℕ) → writtenNumbers (answerOf c n) ≡ outputNumbers c n
-  unfolding writtenNumbers answerOf outputNumbers
+  numbers-of : (c : Checked) (n : ℕ) → writtenNumbers (writeAnswer c n) ≡ outputNumbers c n
+  unfolding writtenNumbers answerIf outputNumbers
   numbers-of Passed n = refl
   numbers-of (Broken r) n = refl
 
-  promised : (w : Written) (new : List ℕ) → w ≡ answerOf rule (length (encode s)) → new ≡ heldAfter rule (encode s) old → Promises w new
+  promised : (w : Written) (new : List ℕ) → w ≡ writeAnswer rule (length (encode s)) → new ≡ heldAfter rule (encode s) old → Promises w new
   promised w new a e = (a, (e, (ap writtenNumbers a ∙ numbers-of rule (length (encode s)), λ n q. rw e (read-again rule refl n (sym a ∙ q)))))
 
   pub write-broken : (r : Rule) → siteRule s ≡ Broken r → Promises (Refused r) old
-  unfolding answerOf heldAfter
+  unfolding answerIf heldAfter
   write-broken r e =
       let q : rule ≡ Broken r = output-broken _ _ (siteRule s) r e in
       promised (Refused r) old (rw q) (rw q)
 
   pub write-short : siteRule s ≡ Passed → length old < length (encode s) → Promises (Refused BufferShort) old
-  unfolding answerOf heldAfter
+  unfolding answerIf heldAfter
   write-short e h =
       let q : rule ≡ Broken BufferShort = output-short _ _ (siteRule s) e h in
       promised (Refused BufferShort) old (rw q) (rw q)
 
-  pub write-whole : {n : ℕ} {new : List ℕ} → siteRule s ≡ Passed → length (encode s) ≤ length old → Run old 0 (encode s) new n → Promises (Wrote n) new
-  unfolding answerOf heldAfter
+  pub write-whole : {n : ℕ} {new : List ℕ} → siteRule s ≡ Passed → length (encode s) ≤ length old → Wrote old 0 (encode s) new n → Promises (Count n) new
+  unfolding answerIf heldAfter
   write-whole {n} {new} e h w =
       let q : rule ≡ Passed = output-whole _ _ (siteRule s) e h in
-      promised (Wrote n) new (rw q (ap Wrote (in-front w h .0))) (rw q (in-front w h .1))
+      promised (Count n) new (rw q (ap Count (in-front w h .0))) (rw q (in-front w h .1))

@@ -4,25 +4,20 @@ use mathlib.Core.Path.{_≡_}
 use mathlib.Core.List.{List}
 use lib.ListN.{length}
 use Rattle.site.specs.Refusal.{ruleNumber}
-use Rattle.site.specs.declared.Checked.{Checked}
-use Rattle.site.specs.declared.Checked.the-variants.{Passed, Broken}
+use Rattle.site.specs.ByCheck.{answerIf}
 use Rattle.output.specs.Output.{roomRule}
 use Rattle.text.specs.declared.Listed.{Listed}
-use Rattle.text.specs.declared.Listed.the-variants.{Bytes, Refused}
+use Rattle.text.specs.declared.Listed.the-variants.{Count, Refused}
 
 -- number of the refusal, or 0; then how many bytes were written, or the offset
 unfoldable pub listedNumbers : Listed → ℕ × ℕ
-listedNumbers (Bytes n) = (0, n)
+listedNumbers (Count n) = (0, n)
 listedNumbers (Refused rule at) = (ruleNumber rule, at)
 
-unfoldable pub listedOf : Checked → ℕ → Listed
-listedOf Passed n = Bytes n
-listedOf (Broken rule) n = Refused rule 0
-
 -- what is answered where text is to be written into d: 11 at 0 exactly where d is shorter
-abbrev pub answer : List ℕ → List ℕ → Listed
-answer text d = listedOf (roomRule (length text) (length d)) (length text)
+abbrev pub textAnswer : List ℕ → List ℕ → Listed
+textAnswer text d = answerIf Count (λ rule. Refused rule 0) (roomRule (length text) (length d)) (length text)
 
 -- `most` bytes are enough
-abbrev pub Enough : ℕ → List ℕ → List ℕ → Listed → Type 0
-Enough most text d r = most ≤ length d → r ≡ Bytes (length text)
+abbrev pub RoomEnough : ℕ → List ℕ → List ℕ → Listed → Type 0
+RoomEnough most text d r = most ≤ length d → r ≡ Count (length text)

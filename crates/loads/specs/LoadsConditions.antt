@@ -4,7 +4,7 @@ use mathlib.Core.Path.{_≡_}
 use mathlib.Core.List.{List}
 use Rattle.site.specs.declared.Entry.{Entry}
 use Rattle.site.specs.Ranges.{mostEntries, percolationRange, gibbsiteRange, ceilingRange, baseDepositionRange}
-use Rattle.loads.specs.Most.{mostWeathering, mostA, mostMaxS, mostMinN, mostL, mostNitrogenWeight, mostBaseWeight}
+use Rattle.loads.specs.MostTerms.{mostWeathering, mostA, mostMaxS, mostMinN, mostL, mostNitrogenWeight, mostBaseWeight}
 use Rattle.loads.specs.Uptake.{nitrogenIn, baseIn, weightOf, standSum, baseUptakeOf}
 use Rattle.loads.specs.Hydrogen.{hydrogenOf, alOf, levelOf}
 

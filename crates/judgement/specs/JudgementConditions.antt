@@ -1,7 +1,7 @@
 -- What the private functions ask of their numbers.
 use Prim.Native.Nat.{ℕ, _≤_}
 use mathlib.Core.Path.{_≡_}
-use Rattle.loads.specs.Most.{mostMaxS}
+use Rattle.loads.specs.MostTerms.{mostMaxS}
 use Rattle.judgement.specs.declared.Region.{Region}
 use Rattle.judgement.specs.Regions.{regionOf}
 
