@@ -2,7 +2,7 @@
 use Prim.Native.Nat.{ℕ, _+_, _*_, _-_, _/_, _≤_, _<_, min}
 use mathlib.Core.Bool.{Bool, true, false, _&&_}
 use mathlib.Core.Path.{_≡_, refl, sym, _∙_}
-use mathlib.Core.Logic.{_↔_}
+use mathlib.Core.Logic.{_↔_, inl, inr}
 use mathlib.Core.List.{[], _∷_}
 use native.Mathlib.Omega.{arith}
 use native.Mathlib.Nat.{mul-comm, mul-le-mul-left, le-trans, le-div-iff-mul-le}
@@ -15,7 +15,7 @@ use Rattle.loads.specs.CriticalLoads.{maxS, minN}
 use Rattle.site.proofs.Tests.{and-l, and-r}
 use Rattle.loads.proofs.TermLaws.{maxS-is, minN-is, nutN-is, greatest-ceiling, greatest-limit, maxS-greatest}
 use Rattle.judgement.specs.declared.Region.{Region}
-use Rattle.judgement.specs.declared.Region.the-variants.{Unexceeded, NoSulphur, Slope, Corner, SulphurOnly}
+use Rattle.judgement.specs.declared.Region.the-variants.{AcidKept, NoSulphur, Slope, Corner, SulphurOnly}
 use Rattle.judgement.specs.declared.Verdict.{Verdict}
 use Rattle.judgement.specs.declared.Verdict.the-variants.{Within, Over}
 use Rattle.judgement.specs.Regions.{regionNumber}
@@ -34,15 +34,15 @@ nutrient-zero N m X e p = (
 over≢within : {r : Region} {a n : ℕ} → Over r a n ≡ Within → ⊥
 over≢within e = let z : _≡_ {A = ℕ} 0 1 = cc in omega arith
 
-number-zero : (r : Region) → regionNumber r ≡ 0 → r ≡ Unexceeded
-number-zero Unexceeded h = refl
+number-zero : (r : Region) → regionNumber r ≡ 0 → r ≡ AcidKept
+number-zero AcidKept h = refl
 number-zero NoSulphur h = absurd (omega arith)
 number-zero Slope h = absurd (omega arith)
 number-zero Corner h = absurd (omega arith)
 number-zero SulphurOnly h = absurd (omega arith)
 
 -- the numbers of a verdict, for an acid exceedance that is 0 in region 0
-pub numbers-of : (r : Region) (a n : ℕ) → (r ≡ Unexceeded → a ≡ 0) → verdictNumbers (verdictOf r a n) ≡ regionNumber r ∷ a ∷ n ∷ []
+pub numbers-of : (r : Region) (a n : ℕ) → (r ≡ AcidKept → a ≡ 0) → verdictNumbers (verdictOf r a n) ≡ regionNumber r ∷ a ∷ n ∷ []
 unfolding verdictOf verdictNumbers
 numbers-of r a n zero = go (eqb (regionNumber r) 0 && eqb n 0) refl
   where
@@ -52,15 +52,15 @@ numbers-of r a n zero = go (eqb (regionNumber r) 0 && eqb n 0) refl
         rw (zero here, here, eqb-true n 0 (and-r (eqb (regionNumber r) 0) (eqb n 0) e))
     go false e = refl
 
-pub within-needs : (r : Region) (a n : ℕ) → verdictOf r a n ≡ Within → (r ≡ Unexceeded) × (n ≡ 0)
+pub within-needs : (r : Region) (a n : ℕ) → verdictOf r a n ≡ Within → (r ≡ AcidKept) × (n ≡ 0)
 unfolding verdictOf
 within-needs r a n h = go (eqb (regionNumber r) 0 && eqb n 0) refl h
   where
-    go : (t : Bool) → eqb (regionNumber r) 0 && eqb n 0 ≡ t → pick t Within (Over r a n) ≡ Within → (r ≡ Unexceeded) × (n ≡ 0)
+    go : (t : Bool) → eqb (regionNumber r) 0 && eqb n 0 ≡ t → pick t Within (Over r a n) ≡ Within → (r ≡ AcidKept) × (n ≡ 0)
     go true e p = (number-zero r (eqb-true _ _ (and-l (eqb (regionNumber r) 0) (eqb n 0) e)), eqb-true n 0 (and-r (eqb (regionNumber r) 0) (eqb n 0) e))
     go false e p = absurd (over≢within p)
 
-pub within-where : {r : Region} (a : ℕ) {n : ℕ} → r ≡ Unexceeded → n ≡ 0 → verdictOf r a n ≡ Within
+pub within-where : {r : Region} (a : ℕ) {n : ℕ} → r ≡ AcidKept → n ≡ 0 → verdictOf r a n ≡ Within
 unfolding verdictOf
 within-where a {n} e z = rw (e, z)
 
@@ -74,7 +74,7 @@ module _ (t : Terms) (b : TermBounds t) where
 
   module _ (S N : ℕ) where
     -- balances that close are closed by all that the site offers, at the greatest level
-    pub closes-judged : Closes t S N → (region t S N ≡ Unexceeded) × (nutrientExceedance t N ≡ 0)
+    pub closes-judged : Closes t S N → (region t S N ≡ AcidKept) × (nutrientExceedance t N ≡ 0)
     unfolding region
     closes-judged k =
         let m = minN t in
@@ -85,7 +85,7 @@ module _ (t : Terms) (b : TermBounds t) where
           nutrient-iff N .1 (le-trans left (k .nitrogen-balance)),
         )
 
-    pub judged-closes : region t S N ≡ Unexceeded → nutrientExceedance t N ≡ 0 → Closes t S N
+    pub judged-closes : region t S N ≡ AcidKept → nutrientExceedance t N ≡ 0 → Closes t S N
     unfolding region
     judged-closes r z =
         let u = min N (t .Nu) in
@@ -121,8 +121,13 @@ module _ (t : Terms) (b : TermBounds t) where
     verdict-tells {first = first} {second = second} sign w o differ = go (verdict t S N) within-iff-closes
       where
         go : (v : Verdict) → ((v ≡ Within) ↔ Closes t S N) → Tells first second (sign v) t S N
-        go Within c = record { closes = (λ e. c .0 refl, λ k. w); otherwise = (λ e. absurd (differ (sym w ∙ e)), λ not. absurd (not (c .0 refl))) }
+        go Within c = record {
+          either = inl w;
+          closes = (λ e. c .0 refl, λ k. w);
+          otherwise = (λ e. absurd (differ (sym w ∙ e)), λ not. absurd (not (c .0 refl)));
+        }
         go (Over r a n) c = record {
+          either = inr (o r a n);
           closes = (λ e. absurd (differ (sym e ∙ o r a n)), λ k. absurd (over≢within (c .1 k)));
           otherwise = (λ e k. over≢within (c .1 k), λ not. o r a n);
         }

@@ -5,7 +5,7 @@ use mathlib.Core.Logic.{_↔_}
 use native.Mathlib.Omega.{arith}
 use native.Mathlib.Nat.{one-mul, mul-pos, le-div-iff-mul-le}
 use Rattle.loads.specs.Rounding.{up}
-use Rattle.judgement.specs.declared.Region.the-variants.{Unexceeded}
+use Rattle.judgement.specs.declared.Region.the-variants.{AcidKept}
 use Rattle.judgement.specs.Regions.{D, excess, regionOf, acidIn, acidOf}
 use Rattle.judgement.proofs.RegionLaws.{by-region}
 use Rattle.judgement.proofs.NotCutOff.{slope-one, slope-three}
@@ -16,14 +16,14 @@ unfolding up
 up-pos x d h i = le-div-iff-mul-le i .1 (omega (arith, one-mul d))
 
 module _ (S N C m e : ℕ) (p : 0 < e) where
-  zero-there : regionOf S N C m e ≡ Unexceeded → acidOf S N C m e ≡ 0
+  zero-there : regionOf S N C m e ≡ AcidKept → acidOf S N C m e ≡ 0
   unfolding acidOf acidIn
   zero-there h = rw h
 
-  zero-only : acidOf S N C m e ≡ 0 → regionOf S N C m e ≡ Unexceeded
+  zero-only : acidOf S N C m e ≡ 0 → regionOf S N C m e ≡ AcidKept
   unfolding acidOf acidIn D excess
   zero-only =
-      by-region S N C m e (λ r. acidIn r S N C m e ≡ 0 → r ≡ Unexceeded)
+      by-region S N C m e (λ r. acidIn r S N C m e ≡ 0 → r ≡ AcidKept)
       (λ v z. refl)
       (λ n g z. absurd (omega arith))
       (λ n v t z. absurd (omega (arith, slope-three S N C m e t)))
@@ -34,5 +34,5 @@ module _ (S N C m e : ℕ) (p : 0 < e) where
       let some = up-pos ((1000 + e) * excess S C e (N - m)) (D e) (mul-pos (omega arith) (omega arith)) (omega arith) in
       absurd (omega arith))
 
-  pub zero-iff : (acidOf S N C m e ≡ 0) ↔ (regionOf S N C m e ≡ Unexceeded)
+  pub zero-iff : (acidOf S N C m e ≡ 0) ↔ (regionOf S N C m e ≡ AcidKept)
   zero-iff = (zero-only, zero-there)

@@ -1,7 +1,10 @@
 -- All that the answer of the judgement promises, from its equation.
 use Prim.Native.Nat.{ℕ, _-_}
 use mathlib.Core.Path.{_≡_, refl, sym, _∙_, ap}
+use mathlib.Core.Bool.{Bool, true, false, _&&_}
 use mathlib.Core.List.{[], _∷_}
+use lib.Dec.{eqb}
+use Rattle.site.specs.Choice.{pick}
 use native.Mathlib.Omega.{arith}
 use Rattle.site.specs.Check.{siteRule}
 use Rattle.site.specs.declared.Site.{Site}
@@ -16,9 +19,10 @@ use Rattle.loads.specs.CriticalLoads.{loadsOf}
 use Rattle.judgement.specs.declared.Judged.{Judged}
 use Rattle.judgement.specs.declared.JudgementAnswer.{JudgementAnswer}
 use Rattle.judgement.specs.declared.JudgementAnswer.the-variants.{Given, Refused}
+use Rattle.judgement.specs.declared.Verdict.the-variants.{Within, Over}
 use Rattle.judgement.specs.Balance.{Says}
 use Rattle.judgement.specs.Regions.{regionNumber, regionOf, acidIn, acidOf}
-use Rattle.judgement.specs.Verdicts.{region, acidExceedance, nutrientExceedance, verdictOf, verdict, verdictNumbers, verdictWord}
+use Rattle.judgement.specs.Verdicts.{region, acidExceedance, nutrientExceedance, verdictOf, verdict, verdictNumbers, verdictWord, within, over}
 use Rattle.judgement.specs.Answers.{judgedOf, judgementAnswer, judgedValues, judgementValues, pairValues}
 use Rattle.judgement.proofs.Demand3.{numbers-of}
 use Rattle.judgement.proofs.AtSites.{word-tells}
@@ -57,9 +61,18 @@ pub numbers-are : (t : Terms) (S N : ℕ) → verdictNumbers (verdict t S N) ≡
 unfolding verdict region acidExceedance acidOf acidIn
 numbers-are t S N = numbers-of (region t S N) (acidExceedance t S N) (nutrientExceedance t N) (λ r. rw r)
 
+-- and its word goes by them
+word-is : (t : Terms) (S N : ℕ) → verdictWord (verdict t S N) ≡ pick (eqb (regionNumber (region t S N)) 0 && eqb (nutrientExceedance t N) 0) within over
+unfolding verdict verdictOf verdictWord
+word-is t S N = go (eqb (regionNumber (region t S N)) 0 && eqb (nutrientExceedance t N) 0)
+  where
+    go : (b : Bool) → verdictWord (pick b Within (Over (region t S N) (acidExceedance t S N) (nutrientExceedance t N))) ≡ pick b within over
+    go true = refl
+    go false = refl
+
 judged-values : (s : Site) → judgedValues (judgedOf s) ≡ pairValues (termsOf s) (s .sulphur) (s .nitrogen)
 unfolding judgedValues judgedOf loadsOf pairValues
-judged-values s = rw (numbers-are (termsOf s) (s .sulphur) (s .nitrogen))
+judged-values s = rw (numbers-are (termsOf s) (s .sulphur) (s .nitrogen), word-is (termsOf s) (s .sulphur) (s .nitrogen))
 
 module _ (s : Site) (r : JudgementAnswer) (is : r ≡ judgementAnswer s) where
   says : (j : Judged) → r ≡ Given j → Says (verdictWord (j .verdict)) s

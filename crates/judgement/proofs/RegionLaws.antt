@@ -10,7 +10,7 @@ use lib.Dec.{leb}
 use Rattle.site.proofs.Tests.{le-or-lt}
 use Rattle.loads.proofs.Tables.{lt-or-le}
 use Rattle.judgement.specs.declared.Region.{Region}
-use Rattle.judgement.specs.declared.Region.the-variants.{Unexceeded, NoSulphur, Slope, Corner, SulphurOnly}
+use Rattle.judgement.specs.declared.Region.the-variants.{AcidKept, NoSulphur, Slope, Corner, SulphurOnly}
 use Rattle.judgement.specs.JudgementConditions.{Pair}
 use Rattle.judgement.specs.Regions.{D, excess, regionNumber, regionOf}
 
@@ -21,7 +21,7 @@ module _ (S N C m e : ℕ) where
   -- what holds in each region, once: a law on regions goes through here and opens no test
   pub by-region {ℓ} :
       (P : Region → Type ℓ)
-      → (1000 * S + e * (N - m) ≤ 1000 * C → P Unexceeded)
+      → (1000 * S + e * (N - m) ≤ 1000 * C → P AcidKept)
       → (N ≤ m → C < S → P SulphurOnly)
       → (m < N → 1000 * C < 1000 * S + e * (N - m) → (N - m) * D e < e * excess S C e (N - m) → P Corner)
       → (m < N → 1000 * C < 1000 * S + e * (N - m) → e * excess S C e (N - m) ≤ (N - m) * D e → S * D e < 1000 * excess S C e (N - m) → P NoSulphur)
@@ -59,17 +59,17 @@ module _ (S N C m e : ℕ) where
           (le-or-lt (1000 * S + e * (N - m)) (1000 * C))
 
   -- region 0 is where the acid balance closes with all of m taken from N
-  pub zero-closes : regionOf S N C m e ≡ Unexceeded → 1000 * S + e * (N - m) ≤ 1000 * C
+  pub zero-closes : regionOf S N C m e ≡ AcidKept → 1000 * S + e * (N - m) ≤ 1000 * C
   zero-closes =
-      by-region (λ r. r ≡ Unexceeded → 1000 * S + e * (N - m) ≤ 1000 * C) (λ v q. v)
+      by-region (λ r. r ≡ AcidKept → 1000 * S + e * (N - m) ≤ 1000 * C) (λ v q. v)
       (λ n g q. omega (arith, ap regionNumber q))
       (λ n v t q. omega (arith, ap regionNumber q))
       (λ n v t k q. omega (arith, ap regionNumber q))
       (λ n v t k q. omega (arith, ap regionNumber q))
 
-  pub closes-zero : 1000 * S + e * (N - m) ≤ 1000 * C → regionOf S N C m e ≡ Unexceeded
+  pub closes-zero : 1000 * S + e * (N - m) ≤ 1000 * C → regionOf S N C m e ≡ AcidKept
   closes-zero =
-      by-region (λ r. 1000 * S + e * (N - m) ≤ 1000 * C → r ≡ Unexceeded) (λ v h. refl)
+      by-region (λ r. 1000 * S + e * (N - m) ≤ 1000 * C → r ≡ AcidKept) (λ v h. refl)
       (λ n g h. absurd (omega (arith, none-left n)))
       (λ n v t h. absurd (omega arith))
       (λ n v t k h. absurd (omega arith))
@@ -99,7 +99,7 @@ module _ (S N C m e : ℕ) where
 
 -- What each region asks: its own conditions, and that no earlier region applies.
 abbrev pub Lies : Region → (S N C m e : ℕ) → Type 0
-Lies Unexceeded S N C m e = 1000 * S + e * (N - m) ≤ 1000 * C
+Lies AcidKept S N C m e = 1000 * S + e * (N - m) ≤ 1000 * C
 Lies SulphurOnly S N C m e = (N ≤ m) × (C < S)
 Lies Corner S N C m e = (m < N) × (1000 * C < 1000 * S + e * (N - m)) × ((N - m) * D e < e * excess S C e (N - m))
 Lies NoSulphur S N C m e =
@@ -113,7 +113,7 @@ lies-in S N C m e =
     by-region S N C m e (λ r. Lies r S N C m e) (λ v. v) (λ n g. (n, g)) (λ n v t. (n, v, t)) (λ n v t k. (n, v, t, k)) (λ n v t k. (n, v, t, k))
 
 pub lies-only : (r : Region) (S N C m e : ℕ) → Lies r S N C m e → regionOf S N C m e ≡ r
-lies-only Unexceeded S N C m e l = closes-zero S N C m e l
+lies-only AcidKept S N C m e l = closes-zero S N C m e l
 lies-only SulphurOnly S N C m e l = is-four S N C m e (l .0) (l .1)
 lies-only Corner S N C m e l = is-three S N C m e (l .0) (l .1) (l .2)
 lies-only NoSulphur S N C m e l = is-one S N C m e (l .0) (l .1) (l .2) (l .3)
@@ -130,14 +130,14 @@ pub record Sizes (S N C m e : ℕ) : Type 0 where
 pub sizes : {S N C e : ℕ} (m : ℕ) → Pair S N C e → Sizes S N C m e
 sizes {S} {N} {C} {e} m p =
     let n : N - m ≤ 65535 = omega arith in
-    let en : e * (N - m) ≤ 65535000 = mul-le-mul (p .retained) n in
-    let ee : e * e ≤ 1000000 = mul-le-mul (p .retained) (p .retained) in
+    let en : e * (N - m) ≤ 65535000 = mul-le-mul (p .undenitrified) n in
+    let ee : e * e ≤ 1000000 = mul-le-mul (p .undenitrified) (p .undenitrified) in
     let d : 1000000 + e * e ≤ 2000000 = omega arith in
     let v : 1000 * S + e * (N - m) - 1000 * C ≤ 131070000 = omega arith in
     record {
       nitrogen = en;
       square = ee;
       left-three = mul-le-mul n d;
-      right-three = mul-le-mul (p .retained) v;
+      right-three = mul-le-mul (p .undenitrified) v;
       left-one = mul-le-mul (p .sulphur) d;
     }

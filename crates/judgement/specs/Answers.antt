@@ -1,6 +1,9 @@
 -- What the call answers for a site: its loads and the verdict on its own pair, or the rule that it breaks.
 use Prim.Native.Nat.{ℕ}
+use mathlib.Core.Bool.{_&&_}
 use mathlib.Core.List.{List, [], _∷_, _++_}
+use lib.Dec.{eqb}
+use Rattle.site.specs.Choice.{pick}
 use Rattle.site.specs.declared.Site.{Site}
 use Rattle.site.specs.Refusal.{ruleNumber}
 use Rattle.site.specs.Check.{siteRule}
@@ -12,7 +15,7 @@ use Rattle.judgement.specs.declared.Judged.{Judged}
 use Rattle.judgement.specs.declared.JudgementAnswer.{JudgementAnswer}
 use Rattle.judgement.specs.declared.JudgementAnswer.the-variants.{Given, Refused}
 use Rattle.judgement.specs.Regions.{regionNumber}
-use Rattle.judgement.specs.Verdicts.{region, acidExceedance, nutrientExceedance, verdict, verdictNumbers, verdictWord}
+use Rattle.judgement.specs.Verdicts.{region, acidExceedance, nutrientExceedance, verdict, verdictNumbers, verdictWord, within, over}
 
 -- the judgement of the site's own pair
 unfoldable pub judgedOf : Site → Judged
@@ -30,7 +33,9 @@ unfoldable pub judgementValues : JudgementAnswer → List ℕ
 judgementValues (Given j) = judgedValues j
 judgementValues (Refused r) = ruleNumber r ∷ 0 ∷ []
 
--- what these values are for a pair: the four loads, its region and both exceedances, and the word's bytes
+-- what these values are for a pair: the four loads, its region and both exceedances, and the word, where within needs region 0 and
+-- nutrient exceedance 0
 unfoldable pub pairValues : Terms → (S N : ℕ) → List ℕ
 pairValues t S N =
-    maxS t ∷ minN t ∷ maxN t ∷ nutN t ∷ regionNumber (region t S N) ∷ acidExceedance t S N ∷ nutrientExceedance t N ∷ verdictWord (verdict t S N)
+    let word = pick (eqb (regionNumber (region t S N)) 0 && eqb (nutrientExceedance t N) 0) within over in
+    maxS t ∷ minN t ∷ maxN t ∷ nutN t ∷ regionNumber (region t S N) ∷ acidExceedance t S N ∷ nutrientExceedance t N ∷ word

@@ -1,7 +1,7 @@
 -- Demand 3: the balances behind a verdict, on the terms of document 01 at a site.
 use Prim.Native.Nat.{ℕ, _+_, _*_, _-_, _≤_}
 use mathlib.Core.Path.{_≡_}
-use mathlib.Core.Logic.{_↔_}
+use mathlib.Core.Logic.{_↔_, _⊎_}
 use mathlib.Core.List.{List}
 use Rattle.site.specs.declared.Site.{Site}
 use Rattle.loads.specs.Terms.{Terms}
@@ -26,8 +26,9 @@ pub record Closes (t : Terms) (S N : ℕ) : Type 0 where
   pub nitrogen-balance : t .e * (N - u - i) ≤ 1000 * t .L
   pub acid-balance : 1000 * S + t .e * (N - u - i) ≤ 1000 * (t .supply + hydrogen t h + aluminium t h)
 
--- Of two signs: x is the first exactly where the balances close at the deposition S, N, and the second exactly where they do not.
+-- The sign x is one of two: the first exactly where the balances close at the deposition S, N, and the second exactly where they do not.
 pub record Tells {A : Type 0} (first second x : A) (t : Terms) (S N : ℕ) : Type 0 where
+  pub either : (x ≡ first) ⊎ (x ≡ second)
   pub closes : (x ≡ first) ↔ Closes t S N
   pub otherwise : (x ≡ second) ↔ (Closes t S N → ⊥)
 

@@ -11,7 +11,7 @@ pub record Pair (S N C e : ℕ) : Type 0 where
   pub nitrogen : N ≤ 65535
   pub maxS : C ≤ mostMaxS
   pub positive : 1 ≤ e
-  pub retained : e ≤ 1000
+  pub undenitrified : e ≤ 1000
 
 -- a region that is the pair's own
 pub record Own (region : Region) (S N C m e : ℕ) : Type 0 where

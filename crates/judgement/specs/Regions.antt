@@ -6,10 +6,10 @@ use lib.Dec.{leb, ltb}
 use Rattle.site.specs.Choice.{pick}
 use Rattle.loads.specs.Rounding.{up}
 use Rattle.judgement.specs.declared.Region.{Region}
-use Rattle.judgement.specs.declared.Region.the-variants.{Unexceeded, NoSulphur, Slope, Corner, SulphurOnly}
+use Rattle.judgement.specs.declared.Region.the-variants.{AcidKept, NoSulphur, Slope, Corner, SulphurOnly}
 
 abbrev pub regionNumber : Region → ℕ
-regionNumber Unexceeded = 0
+regionNumber AcidKept = 0
 regionNumber NoSulphur = 1
 regionNumber Slope = 2
 regionNumber Corner = 3
@@ -26,14 +26,14 @@ excess S C e n = 1000 * S + e * n - 1000 * C
 -- the first region that applies; n ≤ 0 is N ≤ m, and v ≤ 0 is written without a subtraction
 unfoldable pub regionOf : (S N C m e : ℕ) → Region
 regionOf S N C m e =
-    pick (leb S C && (leb N m || leb (1000 * S + e * (N - m)) (1000 * C))) Unexceeded
+    pick (leb S C && (leb N m || leb (1000 * S + e * (N - m)) (1000 * C))) AcidKept
     (pick (leb N m) SulphurOnly
     (pick (ltb ((N - m) * D e) (e * excess S C e (N - m))) Corner
     (pick (ltb (S * D e) (1000 * excess S C e (N - m))) NoSulphur Slope)))
 
 -- the acid exceedance in each region
 unfoldable pub acidIn : Region → (S N C m e : ℕ) → ℕ
-acidIn Unexceeded S N C m e = 0
+acidIn AcidKept S N C m e = 0
 acidIn SulphurOnly S N C m e = S - C
 acidIn Corner S N C m e = (N - m) + S - C
 acidIn NoSulphur S N C m e = S + up (e * (N - m) - 1000 * C) e

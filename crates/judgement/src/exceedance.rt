@@ -39,7 +39,7 @@ pub fn acid_in(region: Region, s: u64, n: u64, c: u64, m: u64, e: u64) -> u64
     ensures { λ r. ⌜ r ≡ acidIn region s n c m e ⌝ }
 {
     match region {
-        Region::Unexceeded => 0,
+        Region::AcidKept => 0,
         Region::NoSulphur => acid_no_sulphur(s, n - m, c, e),
         Region::Slope => acid_slope(s, n - m, c, e),
         Region::Corner => n - m + s - c,

@@ -20,7 +20,7 @@ use crate::regions::region_of;
 use loads::Loads;
 use loads::LoadsAnswer;
 use loads::critical_loads;
-use loads::retained_at;
+use loads::undenitrified_at;
 use site::Site;
 use site::wide16;
 
@@ -69,7 +69,7 @@ pub fn judge(site: Site) -> JudgementAnswer
     match critical_loads(site) {
         LoadsAnswer::Refused(rule) => JudgementAnswer::Refused(rule),
         LoadsAnswer::Given(l) => {
-            let e = retained_at(site);
+            let e = undenitrified_at(site);
             let verdict = verdict_at(l, e, site.sulphur, site.nitrogen);
             let judged = Judged { loads: l, verdict };
             JudgementAnswer::Given(judged)

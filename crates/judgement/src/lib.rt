@@ -8,17 +8,17 @@ use loads::Loads;
 pub use regions::region_number;
 use site::Rule;
 
-// The acid regions of document 01, "Judging a pair S, N".
+// The acid regions of document 01, "Judging a pair S, N", by the condition under which each is the first that applies. n is N − CLminN.
 pub enum Region {
-    // 0: not exceeded
-    Unexceeded,
-    // 1: the nearest pair that is not exceeded has no sulphur
+    // 0: the acid balance is kept
+    AcidKept,
+    // 1: 1000 × v > S × D
     NoSulphur,
-    // 2: it lies on the slope
+    // 2: otherwise
     Slope,
-    // 3: it is the corner CLmaxS, CLminN
+    // 3: e × v > n × D
     Corner,
-    // 4: it has the same nitrogen
+    // 4: n ≤ 0
     SulphurOnly,
 }
 

@@ -8,7 +8,7 @@ pub fn region_number(region: Region) -> u64
     ensures { λ r. ⌜ r ≡ regionNumber region ⌝ }
 {
     match region {
-        Region::Unexceeded => 0,
+        Region::AcidKept => 0,
         Region::NoSulphur => 1,
         Region::Slope => 2,
         Region::Corner => 3,
@@ -22,7 +22,7 @@ pub fn region_of(s: u64, n: u64, c: u64, m: u64, e: u64) -> Region
 {
     if n <= m {
         if s <= c {
-            return Region::Unexceeded;
+            return Region::AcidKept;
         }
         return Region::SulphurOnly;
     }
@@ -30,7 +30,7 @@ pub fn region_of(s: u64, n: u64, c: u64, m: u64, e: u64) -> Region
     let acid = 1000 * s + e * left;
     let limit = 1000 * c;
     if acid <= limit {
-        return Region::Unexceeded;
+        return Region::AcidKept;
     }
     let v = acid - limit;
     let d = 1_000_000 + e * e;

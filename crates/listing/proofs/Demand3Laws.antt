@@ -21,11 +21,12 @@ use Rattle.text.specs.Listing.{listing}
 use Rattle.text.specs.Words.{lastWord, lineAt, free}
 use Rattle.text.specs.Marks.{Plain}
 use Rattle.text.proofs.WordLaws.{free-cons}
-use Rattle.text.proofs.MarkLaws.{mark-of}
+use Rattle.text.proofs.MarkLaws.{mark-of, line-count, line-behind}
 use Rattle.record.specs.Result.{good}
 use Rattle.record.specs.File.{contents}
 use Rattle.field.proofs.All.{all-at}
 use Rattle.record.proofs.SiteFile.{sites-checked}
+use Rattle.listing.specs.PrintedDemand3.{LinesSay}
 use Rattle.listing.specs.Rows.{rowBy, rowOf}
 use Rattle.listing.proofs.MapLaws.{length-map, getD-map}
 
@@ -50,10 +51,22 @@ unfolding rowOf rowBy nameText valueRule
 plain-row s p = name-free _ (ranged-passed _ (site-passed s p 0 (omega arith) .1))
 
 -- DEMAND 3 in the listing
-pub listing-says : (f : List ℕ) (ss : List Site) → contents f ≡ good ss → (k : ℕ) → k < length ss
-    → Says (lastWord (lineAt (suc k) (listing (map rowOf ss)))) (getD ss k blankSite)
-listing-says f ss e k h =
-    let c = sites-checked f ss e .1 in
-    let plain : Plain (map rowOf ss) = λ i l. let j : i < length ss = omega (arith, length-map rowOf ss) in rw (getD-map rowOf ss i blankSite noRow j) (plain-row _ (all-at c i blankSite j)) in
-    let m = mark-of (map rowOf ss) k plain (omega (arith, length-map rowOf ss)) in
-    rw (m, getD-map rowOf ss k blankSite noRow h) (says (getD ss k blankSite) (all-at c k blankSite h))
+module _ (f : List ℕ) (ss : List Site) (e : contents f ≡ good ss) where
+  passed : (k : ℕ) → k < length ss → siteRule (getD ss k blankSite) ≡ Passed
+  passed k h = all-at (sites-checked f ss e .1) k blankSite h
+
+  row-at : (k : ℕ) → k < length ss → getD (map rowOf ss) k noRow ≡ rowOf (getD ss k blankSite)
+  row-at k h = getD-map rowOf ss k blankSite noRow h
+
+  plain : Plain (map rowOf ss)
+  plain k l = let h : k < length ss = omega (arith, length-map rowOf ss) in rw (row-at k h) (plain-row _ (passed k h))
+
+  line-says : (k : ℕ) → k < length ss → Says (lastWord (lineAt (suc k) (listing (map rowOf ss)))) (getD ss k blankSite)
+  line-says k h = rw (mark-of (map rowOf ss) k plain (omega (arith, length-map rowOf ss)), row-at k h) (says (getD ss k blankSite) (passed k h))
+
+  pub listing-says : LinesSay ss (listing (map rowOf ss))
+  listing-says = record {
+    lines = omega (arith, line-count (map rowOf ss) plain, length-map rowOf ss);
+    nothing-behind = rw (← length-map rowOf ss) (line-behind (map rowOf ss) plain);
+    says = line-says;
+  }

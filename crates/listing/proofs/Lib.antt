@@ -3,5 +3,4 @@ pub mod TurnLaws
 pub mod LoopLaws
 pub mod Demand3Laws
 pub mod ListLaws
-pub mod ShownLaws
 pub mod ReportLaws

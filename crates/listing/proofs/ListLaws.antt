@@ -67,9 +67,9 @@ Clauses f d e r =
     (r ≡ listAnswer (contents f) d) × ((e ≡ listHeld (contents f) d) × ((listedNumbers r ≡ listNumbers (contents f) d) × Written3 f e r))
 
 written3 : (f d : List ℕ) {e : List ℕ} {r : Listed} (ss : List Site) → contents f ≡ good ss → Answered mostText (listing (map rowOf ss)) d e r → Written3 f e r
-written3 f d {e} {r} ss h a n b ts g k l =
+written3 f d {e} {r} ss h a n b ts g =
     let same : ss ≡ ts = cc in
-    rw (written (listing (map rowOf ss)) d e r (a .0) (a .1 .0) n b, same) (listing-says f ts g k l)
+    rw (written (listing (map rowOf ss)) d e r (a .0) (a .1 .0) n b, same) (listing-says f ts g)
 
 pub listed-sites : (f d : List ℕ) {e : List ℕ} {r : Listed} (ss : List Site) → contents f ≡ good ss → Answered mostText (listing (map rowOf ss)) d e r → Clauses f d e r
 unfolding listAnswer listHeld listNumbers
@@ -96,7 +96,7 @@ reported-sites f d ss h a = reported f d (rw h a) (written3 f d ss h a)
 
 pub reported-fault : (f d : List ℕ) {e : List ℕ} {r : Listed} {rule : Rule} {at : ℕ} → contents f ≡ fault rule at → Answered mostText (refusal rule at) d e r → Reported f d e r
 unfolding reportOf printed
-reported-fault f d h a = reported f d (rw h a) (λ n b ss g k l. not-good (sym h ∙ g))
+reported-fault f d h a = reported f d (rw h a) (λ n b ss g. not-good (sym h ∙ g))
 
 -- the part that says nothing of the balances
 pub as-answered : (f d : List ℕ) {e : List ℕ} {r : Listed} → Reported f d e r → Answered mostText (reportOf f) d e r

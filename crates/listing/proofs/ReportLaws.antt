@@ -16,7 +16,7 @@ use Rattle.listing.proofs.Demand3Laws.{listing-says}
 -- DEMAND 3 in what is printed
 pub report-says : (f : List ℕ) → Demand3 f (reportOf f)
 unfolding reportOf printed
-report-says f ss e k l = rw e (listing-says f ss e k l)
+report-says f ss e = rw e (listing-says f ss e)
 
 -- bytes past those that are looked at change nothing of what is printed
 pub report-take : (f : List ℕ) → reportOf (take mostFile f) ≡ reportOf f
@@ -27,7 +27,7 @@ report-take f = ap printed (sites-more f mostFile (omega arith))
 pub texts-stay : (f x g y : List ℕ) → Demand3 f x → Demand3 g y → PrintedNeverWorse f x g y
 texts-stay f x g y df dg ss ts hf hg k l kl ll less =
     let passed = all-at (sites-checked f ss hf .1) k blankSite kl in
-    told-stays (getD ss k blankSite) passed (getD ts l blankSite) (less .one) (less .sulphur) (less .nitrogen) (df ss hf k kl) (dg ts hg l ll)
+    told-stays (getD ss k blankSite) passed (getD ts l blankSite) (less .one) (less .sulphur) (less .nitrogen) (df ss hf .says k kl) (dg ts hg .says l ll)
 
 -- and so in what is printed
 pub report-stays : (f g : List ℕ) → PrintedNeverWorse f (reportOf f) g (reportOf g)

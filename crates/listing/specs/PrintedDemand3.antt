@@ -1,7 +1,7 @@
 -- Demand 3 in the listing: what the last word of a record's line says, and of two records.
-use Prim.Native.Nat.{ℕ, suc, _<_}
+use Prim.Native.Nat.{ℕ, suc, _+_, _<_}
 use mathlib.Core.Path.{_≡_}
-use mathlib.Core.List.{List}
+use mathlib.Core.List.{List, []}
 use lib.ListN.{length, getD, take}
 use Rattle.site.specs.declared.Site.{Site}
 use Rattle.judgement.specs.Balance.{Says}
@@ -9,14 +9,20 @@ use Rattle.judgement.specs.Less.{Less, Stays}
 use Rattle.field.specs.Field.{blankSite}
 use Rattle.text.specs.declared.Listed.{Listed}
 use Rattle.text.specs.declared.Listed.the-variants.{Count}
-use Rattle.text.specs.Words.{lastWord, lineAt}
+use Rattle.text.specs.Words.{split, lastWord, lineAt}
 use Rattle.record.specs.Result.{good}
 use Rattle.record.specs.File.{contents}
 
--- Of a file f that the checks let pass, and of each of its records: what the last word of the record's line says in the text t. Line 0
--- is the header.
+-- The text t has line 0, the header, then a line for each site of ss, and nothing behind the last 0A; the last word of each site's line
+-- says whether its balances close.
+pub record LinesSay (ss : List Site) (t : List ℕ) : Type 0 where
+  pub lines : length (split 10 t) ≡ length ss + 2
+  pub nothing-behind : lineAt (length ss + 1) t ≡ []
+  pub says : (k : ℕ) → k < length ss → Says (lastWord (lineAt (suc k) t)) (getD ss k blankSite)
+
+-- demand 3 in a text t for the file f: where the checks let f pass, every line says so
 abbrev pub Demand3 : List ℕ → List ℕ → Type 0
-Demand3 f t = (ss : List Site) → contents f ≡ good ss → (k : ℕ) → k < length ss → Says (lastWord (lineAt (suc k) t)) (getD ss k blankSite)
+Demand3 f t = (ss : List Site) → contents f ≡ good ss → LinesSay ss t
 
 -- the same of the text that a call has written into a buffer
 abbrev pub Written3 : List ℕ → List ℕ → Listed → Type 0

@@ -1,13 +1,12 @@
 -- What is listed and what is printed for a file.
 use Prim.Native.Nat.{ℕ}
 use mathlib.Core.List.{List, map}
-use lib.ListN.{length}
 use Rattle.site.specs.Refusal.{ruleNumber}
 use Rattle.text.specs.declared.Listed.{Listed}
 use Rattle.text.specs.declared.Listed.the-variants.{Refused}
 use Rattle.text.specs.Listing.{listing}
 use Rattle.text.specs.RefusalLine.{refusal}
-use Rattle.output.specs.Output.{roomRule, outputCount, held, heldNumbers}
+use Rattle.output.specs.Output.{held, heldNumbers}
 use Rattle.text.specs.TextAnswer.{textAnswer}
 use Rattle.site.specs.declared.Site.{Site}
 use Rattle.record.specs.Result.{good, fault}
@@ -34,7 +33,3 @@ printed (fault rule at) = refusal rule at
 
 unfoldable pub reportOf : List ℕ → List ℕ
 reportOf f = printed (contents f)
-
--- how many bytes are shown of a text for which d is lent
-abbrev pub shownLength : List ℕ → List ℕ → ℕ
-shownLength text d = outputCount (roomRule (length text) (length d)) (length text)

@@ -5,7 +5,6 @@ mod walking;
 
 pub use listing::list;
 pub use printing::report;
-pub use printing::shown;
 use record::Outcome;
 use text::Row;
 pub use walking::walk_file;

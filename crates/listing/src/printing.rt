@@ -1,11 +1,9 @@
 // What the program prints for a file.
 ghost use mathlib.Core.Path.{_≡_};
-ghost use Prim.Native.Nat.{_≤_};
-ghost use lib.ListN.{length, take};
 ghost use Rattle.text.specs.TextLengths.{mostText};
 ghost use Rattle.output.specs.Output.{heldNumbers, held};
 ghost use Rattle.text.specs.TextAnswer.{listedNumbers, textAnswer, RoomEnough};
-ghost use Rattle.listing.specs.Reports.{reportOf, shownLength};
+ghost use Rattle.listing.specs.Reports.{reportOf};
 ghost use Rattle.listing.specs.PrintedDemand3.{Written3};
 use crate::walking::walk_file;
 use record::Outcome;
@@ -30,19 +28,5 @@ pub fn report(file: &[u8], out: &mut [u8]) -> Listed
             let n = w.count;
             put_listing(out, rows, n)
         }
-    }
-}
-
-// The same, with the number of bytes to print: none where the buffer is too short.
-pub fn shown(file: &[u8], out: &mut [u8]) -> usize
-    ensures inside { λ r. ⌜ (r ≤ length (now (out .exit))) × (r ≡ length (take r (now (out .exit)))) ⌝ }
-    ensures answer { λ r. ⌜ r ≡ shownLength (reportOf (now (file .entry))) (now (out .entry)) ⌝ }
-    ensures buffer { λ _. ⌜ now (out .exit) ≡ held (reportOf (now (file .entry))) (now (out .entry)) ⌝ }
-    ensures enough { λ r. ⌜ (mostText ≤ length (now (out .entry)) → take r (now (out .exit)) ≡ reportOf (now (file .entry))) ⌝ }
-{
-    let r = report(file, out);
-    match r {
-        Listed::Count(k) => k,
-        Listed::Refused { rule: _, at: _ } => 0,
     }
 }

@@ -5,9 +5,9 @@ use Rattle.loads.specs.OneSite.{OneSite}
 use Rattle.loads.specs.Weathering.{weathering, availableWeathering}
 use Rattle.loads.specs.Uptake.{standSum, nitrogenUptake, baseDemand, baseUptake}
 use Rattle.loads.specs.Supply.{baseSupply, aluminiumLimit}
-use Rattle.loads.specs.Nitrogen.{retained, leaching}
+use Rattle.loads.specs.Nitrogen.{undenitrified, leaching}
 use Rattle.loads.specs.SiteTerms.{termsOf}
 
 pub terms-same : (s t : Site) → OneSite s t → termsOf s ≡ termsOf t
-unfolding termsOf weathering availableWeathering standSum nitrogenUptake baseDemand baseUptake baseSupply aluminiumLimit retained leaching
+unfolding termsOf weathering availableWeathering standSum nitrogenUptake baseDemand baseUptake baseSupply aluminiumLimit undenitrified leaching
 terms-same s t one = cc

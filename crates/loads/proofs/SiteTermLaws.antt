@@ -16,13 +16,13 @@ use Rattle.loads.specs.Weathering.{classOf, weatheringOf, weathering, av
 use Rattle.loads.specs.Uptake.{baseIn, nitrogenIn, standSum, nitrogenUptake, baseDemand, baseUptakeOf, baseUptake}
 use Rattle.loads.specs.Supply.{baseSupply, aluminiumLimit}
 use Rattle.loads.specs.Hydrogen.{hydrogen, aluminium, greatestLevel, criticalLeaching}
-use Rattle.loads.specs.Nitrogen.{retained, retainedOf, leaching}
+use Rattle.loads.specs.Nitrogen.{undenitrified, undenitrifiedOf, leaching}
 use Rattle.loads.specs.Terms.{TermBounds}
 use Rattle.loads.specs.SiteTerms.{termsOf}
 use Rattle.loads.specs.CriticalLoads.{maxS, minN}
 use Rattle.loads.specs.LoadsConditions.{acidLoad}
 use Rattle.loads.proofs.Numbers.{prod, part-le, quotient-le}
-use Rattle.loads.proofs.Tables.{class-le, retained-le, retained-pos}
+use Rattle.loads.proofs.Tables.{class-le, undenitrified-le, undenitrified-pos}
 use Rattle.loads.proofs.TextureLaws.{texture-between}
 
 pub pick-le : {x y k : ℕ} (b : Bool) → x ≤ k → y ≤ k → pick b x y ≤ k
@@ -54,9 +54,9 @@ module _ (s : Site) where
   unfolding termsOf aluminiumLimit
   limit-is = refl
 
-  pub retained-is : termsOf s .e ≡ retainedOf (s .drainage)
-  unfolding termsOf retained
-  retained-is = refl
+  pub undenitrified-is : termsOf s .e ≡ undenitrifiedOf (s .drainage)
+  unfolding termsOf undenitrified
+  undenitrified-is = refl
 
   pub leaching-is : termsOf s .L ≡ (s .percolation) * (s .leachate) / 100
   unfolding termsOf leaching
@@ -118,7 +118,7 @@ module _ (s : Site) (b : Bounds s) where
     A-le = limited;
     Q-le = b .percolation;
     H-le = b .ceiling;
-    e-least = rw (retained-is s) (retained-pos (s .drainage) (b .drainage));
-    e-most = rw (retained-is s) (retained-le (s .drainage));
+    e-least = rw (undenitrified-is s) (undenitrified-pos (s .drainage) (b .drainage));
+    e-most = rw (undenitrified-is s) (undenitrified-le (s .drainage));
     L-le = omega (arith, leaching-is s, mul-le-mul (b .percolation) (b .leachate));
   }

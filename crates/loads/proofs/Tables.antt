@@ -10,7 +10,7 @@ use lib.Dec.{leb, eqb}
 use lib.ListN.{List·getD-eq-default}
 use Rattle.site.proofs.Tests.{le-or-lt, and-l, and-r}
 use Rattle.loads.specs.Weathering.{classOf}
-use Rattle.loads.specs.Nitrogen.{denitrified, retainedOf}
+use Rattle.loads.specs.Nitrogen.{denitrified, undenitrifiedOf}
 
 pub lt-or-le : (a b : ℕ) → (a < b) ⊎ (b ≤ a)
 lt-or-le a b = ⊎-elim (λ h. inr h) (λ h. inl h) (le-or-lt b a)
@@ -45,13 +45,13 @@ class-pos p t h n i j =
     let here : eqb p 0 || leb 1 (classOf p t) ≡ true = and-r (leb (classOf p t) 20) _ (class-tested p t h i j) in
     leb-true 1 (classOf p t) (rw (ne-eqb p 0 n) at here)
 
-pub retained-le : (d : ℕ) → retainedOf d ≤ 1000
-unfolding retainedOf
-retained-le d = omega arith
+pub undenitrified-le : (d : ℕ) → undenitrifiedOf d ≤ 1000
+unfolding undenitrifiedOf
+undenitrified-le d = omega arith
 
-pub retained-pos : (d : ℕ) → d ≤ 5 → 1 ≤ retainedOf d
-unfolding retainedOf denitrified
-retained-pos d h = leb-true _ _ (one-below (λ d. leb 1 (retainedOf d)) 6 refl d (omega arith))
+pub undenitrified-pos : (d : ℕ) → d ≤ 5 → 1 ≤ undenitrifiedOf d
+unfolding undenitrifiedOf denitrified
+undenitrified-pos d h = leb-true _ _ (one-below (λ d. leb 1 (undenitrifiedOf d)) 6 refl d (omega arith))
 
 -- d is 1000 at most, so e = 1000 − d is not cut off
 pub denitrified-le : (d : ℕ) → d ≤ 5 → denitrified d ≤ 1000

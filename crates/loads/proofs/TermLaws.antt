@@ -28,7 +28,7 @@ module _ (t : Terms) where
       (C m l e : ℕ) → C ≡ maxS t → m ≡ minN t → l ≡ t .L → e ≡ t .e
       → record { «max_s» = C; «min_n» = m; «max_n» = m + 1000 * C / e; «nut_n» = m + 1000 * l / e } ≡ loadsOf t
   unfolding loadsOf maxN nutN
-  loads-by C m l e acid nitrogen leached retained = rw (acid, nitrogen, leached, retained)
+  loads-by C m l e acid nitrogen leached undenitrified = rw (acid, nitrogen, leached, undenitrified)
 
   -- hydrogen and aluminium grow with the level
   hydrogen-mono : {i j : ℕ} → i ≤ j → hydrogen t i ≤ hydrogen t j

@@ -9,11 +9,11 @@ unfoldable pub denitrified : ℕ → ℕ
 denitrified drainage = getD (0 ∷ 100 ∷ 200 ∷ 400 ∷ 700 ∷ 800 ∷ []) drainage 0
 
 -- e = 1000 − d
-unfoldable pub retainedOf : ℕ → ℕ
-retainedOf drainage = 1000 - denitrified drainage
+unfoldable pub undenitrifiedOf : ℕ → ℕ
+undenitrifiedOf drainage = 1000 - denitrified drainage
 
-unfoldable pub retained : Site → ℕ
-retained s = retainedOf (s .drainage)
+unfoldable pub undenitrified : Site → ℕ
+undenitrified s = undenitrifiedOf (s .drainage)
 
 -- L
 unfoldable pub leaching : Site → ℕ

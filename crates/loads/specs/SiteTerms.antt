@@ -3,7 +3,7 @@ use Rattle.site.specs.declared.Site.{Site}
 use Rattle.loads.specs.Terms.{Terms}
 use Rattle.loads.specs.Uptake.{nitrogenUptake}
 use Rattle.loads.specs.Supply.{baseSupply, aluminiumLimit}
-use Rattle.loads.specs.Nitrogen.{retained, leaching}
+use Rattle.loads.specs.Nitrogen.{undenitrified, leaching}
 
 unfoldable pub termsOf : Site → Terms
 termsOf s = record {
@@ -14,6 +14,6 @@ termsOf s = record {
   Q = s .percolation;
   K = s .gibbsite;
   H = s .ceiling;
-  e = retained s;
+  e = undenitrified s;
   L = leaching s;
 }

@@ -15,7 +15,7 @@ use crate::LoadsAnswer;
 use crate::hydrogen::aluminium_limit;
 use crate::hydrogen::critical_leaching;
 use crate::nitrogen::leaching_of;
-use crate::nitrogen::retained_at;
+use crate::nitrogen::undenitrified_at;
 use crate::uptake::base_uptake;
 use crate::uptake::stand_sums;
 use crate::weathering::available_of;
@@ -89,7 +89,7 @@ fn loads_of(s: Site) -> Loads
     let uptake = sums.nitrogen / 10_000_000;
     let min_n = uptake + wide16(s.immobilisation);
     let leached = leaching_of(wide16(s.percolation), wide16(s.leachate));
-    let e = retained_at(s);
+    let e = undenitrified_at(s);
     with_nitrogen(max_s_of(s, demand), min_n, leached, e)
 }
 

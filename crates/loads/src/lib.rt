@@ -8,7 +8,7 @@ mod weathering;
 
 pub use critical::critical_loads;
 pub use hydrogen::greatest_level;
-pub use nitrogen::retained_at;
+pub use nitrogen::undenitrified_at;
 use site::Rule;
 
 // The greatest allowed hydrogen level, or the rule that a number breaks.

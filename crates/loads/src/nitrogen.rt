@@ -3,7 +3,7 @@ ghost use mathlib.Core.Path.{_≡_};
 ghost use Prim.Native.Nat.{_*_, _/_, _≤_};
 ghost use Rattle.site.specs.Ranges.{percolationRange, leachateRange};
 ghost use Rattle.loads.specs.MostTerms.{mostL};
-ghost use Rattle.loads.specs.Nitrogen.{denitrified, retainedOf};
+ghost use Rattle.loads.specs.Nitrogen.{denitrified, undenitrifiedOf};
 ghost use Rattle.loads.specs.SiteTerms.{termsOf};
 use site::Site;
 use site::wide;
@@ -20,8 +20,8 @@ fn denitrified_in(drainage: usize) -> u64
 }
 
 // e, per mille; past the classes nothing is denitrified.
-fn retained_of(drainage: u8) -> u64
-    ensures { λ r. ⌜ r ≡ retainedOf drainage ⌝ }
+fn undenitrified_of(drainage: u8) -> u64
+    ensures { λ r. ⌜ r ≡ undenitrifiedOf drainage ⌝ }
 {
     let class = wide(drainage);
     if 5 < class {
@@ -31,10 +31,10 @@ fn retained_of(drainage: u8) -> u64
 }
 
 // e at a site
-pub fn retained_at(s: Site) -> u64
+pub fn undenitrified_at(s: Site) -> u64
     ensures { λ r. ⌜ r ≡ termsOf s .e ⌝ }
 {
-    retained_of(s.drainage)
+    undenitrified_of(s.drainage)
 }
 
 // L

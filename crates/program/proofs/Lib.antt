@@ -1,2 +1,3 @@
+pub mod ShownLaws
 pub mod ReaderLaws
 pub mod PrintingLaws

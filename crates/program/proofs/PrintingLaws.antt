@@ -13,12 +13,12 @@ use Rattle.site.specs.declared.Checked.{Checked}
 use Rattle.site.specs.declared.Checked.the-variants.{Passed, Broken}
 use Rattle.output.specs.Output.{roomRule, heldAfter, outputCount, held}
 use Rattle.output.proofs.OutputLaws.{room-missing}
-use Rattle.listing.specs.Reports.{reportOf, shownLength}
+use Rattle.listing.specs.Reports.{reportOf}
 use Rattle.listing.specs.PrintedDemand3.{Demand3}
 use Rattle.listing.proofs.ReportLaws.{report-take, report-says}
 use Rattle.program.specs.declared.Reading.{Reading}
 use Rattle.program.specs.declared.Reading.the-variants.{More, Ended, Failed}
-use Rattle.program.specs.Printing.{outputOf, ReadFrom}
+use Rattle.program.specs.Printing.{shownLength, outputOf, ReadFrom}
 
 -- the clauses of the call that answers
 abbrev pub Answers : (b d e : List ℕ) → Reading → ℕ → Type 0

@@ -3,9 +3,14 @@ use Prim.Native.Nat.{ℕ}
 use mathlib.Core.Path.{_≡_}
 use mathlib.Core.List.{List, []}
 use lib.ListN.{length, take}
+use Rattle.output.specs.Output.{roomRule, outputCount}
 use Rattle.listing.specs.Reports.{reportOf}
 use Rattle.program.specs.declared.Reading.{Reading}
 use Rattle.program.specs.declared.Reading.the-variants.{More, Ended, Failed}
+
+-- how many bytes are shown of a text for which d is lent
+abbrev pub shownLength : List ℕ → List ℕ → ℕ
+shownLength text d = outputCount (roomRule (length text) (length d)) (length text)
 
 -- the report of the bytes that were read, where the file has ended; nothing after a failed read
 unfoldable pub outputOf : Reading → List ℕ → List ℕ

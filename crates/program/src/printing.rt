@@ -6,14 +6,31 @@ ghost use lib.ListN.{length, take, drop};
 ghost use Rattle.listing.specs.Reports.{reportOf};
 ghost use Rattle.listing.specs.PrintedDemand3.{Demand3};
 ghost use Rattle.program.specs.declared.Reading.the-variants.{Failed};
-ghost use Rattle.program.specs.Printing.{outputOf, ReadFrom};
+ghost use Rattle.program.specs.Printing.{shownLength, outputOf, ReadFrom};
+ghost use Rattle.text.specs.TextLengths.{mostText};
+ghost use Rattle.output.specs.Output.{held};
 use crate::Reading;
-use listing::shown;
+use listing::report;
+use text::Listed;
 
 fn least(a: usize, b: usize) -> usize
     ensures { λ r. ⌜ (r ≡ min a b) × (r ≤ b) ⌝ }
 {
     if a < b { a } else { b }
+}
+
+// The report of a file, with the number of bytes to print: none where the buffer is too short.
+fn shown(file: &[u8], out: &mut [u8]) -> usize
+    ensures inside { λ r. ⌜ (r ≤ length (now (out .exit))) × (r ≡ length (take r (now (out .exit)))) ⌝ }
+    ensures answer { λ r. ⌜ r ≡ shownLength (reportOf (now (file .entry))) (now (out .entry)) ⌝ }
+    ensures buffer { λ _. ⌜ now (out .exit) ≡ held (reportOf (now (file .entry))) (now (out .entry)) ⌝ }
+    ensures enough { λ r. ⌜ (mostText ≤ length (now (out .entry)) → take r (now (out .exit)) ≡ reportOf (now (file .entry))) ⌝ }
+{
+    let r = report(file, out);
+    match r {
+        Listed::Count(k) => k,
+        Listed::Refused { rule: _, at: _ } => 0,
+    }
 }
 
 // The report of what was read, where the reading has ended, and nothing otherwise; gives how many bytes to print. The file's buffer

@@ -1,9 +1,10 @@
 -- The lines of a listing, and the last word of each.
-use Prim.Native.Nat.{ℕ, zero, suc, _<_}
+use Prim.Native.Nat.{ℕ, zero, suc, _+_, _<_}
 use mathlib.Core.Path.{_≡_, refl, ap, _∙_}
 use mathlib.Core.Bool.{true}
 use mathlib.Core.List.{List, [], _∷_, _++_, append-assoc, map}
 use native.Mathlib.Omega.{arith}
+use native.Mathlib.Numerals.{add-one}
 use lib.ListN.{length, getD}
 use Rattle.judgement.specs.declared.Verdict.{Verdict}
 use Rattle.judgement.specs.declared.Verdict.the-variants.{Within, Over}
@@ -67,6 +68,22 @@ getD-body : (rs : List Row) (k : ℕ) → k < length rs → getD (map body rs ++
 getD-body [] k h = absurd (omega arith)
 getD-body (r ∷ rs) zero h = refl
 getD-body (r ∷ rs) (suc k) h = getD-body rs k (omega arith)
+
+-- so the listing has a line more than its rows, and nothing behind the last 0A
+pub line-count : (rs : List Row) → Plain rs → length (split 10 (listing rs)) ≡ length rs + 2
+line-count rs h = ap length (listing-lines rs h) ∙ count-body rs
+  where
+    count-body : (rs : List Row) → length (headText ∷ (map body rs ++ ([] ∷ []))) ≡ length rs + 2
+    count-body [] = refl
+    count-body (r ∷ rs) = omega (arith, count-body rs)
+
+pub line-behind : (rs : List Row) → Plain rs → lineAt (length rs + 1) (listing rs) ≡ []
+unfolding lineAt
+line-behind rs h = ap (λ (t : List (List ℕ)). getD t (length rs + 1) []) (listing-lines rs h) ∙ rw (add-one) (past-body rs)
+  where
+    past-body : (rs : List Row) → getD (map body rs ++ ([] ∷ [])) (length rs) [] ≡ []
+    past-body [] = refl
+    past-body (r ∷ rs) = past-body rs
 
 -- line k + 1 is that of row k
 pub line-of : (rs : List Row) (k : ℕ) → Plain rs → k < length rs → lineAt (suc k) (listing rs) ≡ body (getD rs k noRow)

@@ -19,7 +19,7 @@ acid-no-sulphur-requires : tie.Need-acid-no-sulphur-requires
 acid-no-sulphur-requires c κs =
     let a = c .before .before .args in
     let p = c .before .before .pre .pair in
-    (p .sulphur, p .positive, p .retained, omega arith, in-one (a .s) (a .n) (a .c) (a .m) (a .e) (sym (c .before .before .pre .own) ∙ c .enum-told2 .given .1) .1)
+    (p .sulphur, p .positive, p .undenitrified, omega arith, in-one (a .s) (a .n) (a .c) (a .m) (a .e) (sym (c .before .before .pre .own) ∙ c .enum-told2 .given .1) .1)
 
 enum-told-3 : tie.Need-enum-told-3
 enum-told-3 c = search needs
@@ -31,7 +31,7 @@ acid-slope-requires : tie.Need-acid-slope-requires
 acid-slope-requires c κs =
     let a = c .before .before .args in
     let p = c .before .before .pre .pair in
-    (p .sulphur, p .positive, p .retained, omega arith, in-two (a .s) (a .n) (a .c) (a .m) (a .e) (sym (c .before .before .pre .own) ∙ c .enum-told3 .given .1) .1)
+    (p .sulphur, p .positive, p .undenitrified, omega arith, in-two (a .s) (a .n) (a .c) (a .m) (a .e) (sym (c .before .before .pre .own) ∙ c .enum-told3 .given .1) .1)
 
 enum-told-4 : tie.Need-enum-told-4
 enum-told-4 c = search needs

@@ -35,8 +35,8 @@ enum-known-rule c = search needs
 enum-known-l : tie.Need-enum-known-l
 enum-known-l c = search needs
 
-retained-at-requires : tie.Need-retained-at-requires
-retained-at-requires c κs = search needs
+undenitrified-at-requires : tie.Need-undenitrified-at-requires
+undenitrified-at-requires c κs = search needs
 
 verdict-at-requires : tie.Need-verdict-at-requires
 verdict-at-requires c κs =
@@ -44,8 +44,8 @@ verdict-at-requires c κs =
     let l = loaded (c .before) in
     let t = site-bounds s (l .0) in (
       rw (l .1) (max-s-le s (l .0)),
-      rw (c .retained-at .ensures) (t .e-least),
-      rw (c .retained-at .ensures) (t .e-most),
+      rw (c .undenitrified-at .ensures) (t .e-least),
+      rw (c .undenitrified-at .ensures) (t .e-most),
     )
 
 returns : tie.Need-returns
@@ -59,7 +59,7 @@ unfolding judgementAnswer answerIf judgedOf
 returns-2 c =
     let s = c .before .before .before .before .before .before .args .site in
     let l = loaded (c .before .before) in
-    judgement-promise s _ (rw (l .0, c .verdict-at .ensures, l .1, c .before .retained-at .ensures, verdict-by-loads (termsOf s) (s .sulphur) (s .nitrogen)))
+    judgement-promise s _ (rw (l .0, c .verdict-at .ensures, l .1, c .before .undenitrified-at .ensures, verdict-by-loads (termsOf s) (s .sulphur) (s .nitrogen)))
 
 pub judge-spec : {M : Type 1} → statement M
 judge-spec =
@@ -68,7 +68,7 @@ judge-spec =
     critical-loads-requires
     enum-known-rule
     enum-known-l
-    retained-at-requires
+    undenitrified-at-requires
     verdict-at-requires
     returns
     returns-2)

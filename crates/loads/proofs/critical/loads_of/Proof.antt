@@ -30,8 +30,8 @@ wide16-requires-3 c κs = search needs
 leaching-of-requires : tie.Need-leaching-of-requires
 leaching-of-requires c κs = search needs
 
-retained-at-requires : tie.Need-retained-at-requires
-retained-at-requires c κs = search needs
+undenitrified-at-requires : tie.Need-undenitrified-at-requires
+undenitrified-at-requires c κs = search needs
 
 max-s-of-requires : tie.Need-max-s-of-requires
 max-s-of-requires c κs =
@@ -46,7 +46,7 @@ with-nitrogen-requires c κs =
       acid = c .max-s-of .ensures .1;
       nitrogen = omega (arith, at .stand-sums .ensures .nitrogen-le, c .before .before .before .before .before .wide16 .ensures .0, b .immobilisation);
       leaching = c .before .before .leaching-of .ensures .1;
-      divisor = rw (c .before .retained-at .ensures) (term-bounds (at .before .before .before .args .s) b .e-least);
+      divisor = rw (c .before .undenitrified-at .ensures) (term-bounds (at .before .before .before .args .s) b .e-least);
     }
 
 returns : tie.Need-returns
@@ -57,7 +57,7 @@ returns c =
     (loads-by (termsOf s) _ _ _ _ (c .before .max-s-of .ensures .0)
     (rw (minN-plain s, at .stand-sums .ensures .nitrogen, at .before .wide .ensures .0, c .before .before .before .before .before .before .wide16 .ensures .0))
     (rw (leaching-is s, c .before .before .before .leaching-of .ensures .0, c .before .before .before .before .before .wide162 .ensures .0, c .before .before .before .before .wide163 .ensures .0))
-    (c .before .before .retained-at .ensures))
+    (c .before .before .undenitrified-at .ensures))
 
 pub loads-of-spec : {M : Type 1} → statement M
 loads-of-spec =
@@ -71,7 +71,7 @@ loads-of-spec =
     wide16-requires-2
     wide16-requires-3
     leaching-of-requires
-    retained-at-requires
+    undenitrified-at-requires
     max-s-of-requires
     with-nitrogen-requires
     returns)

@@ -1,10 +1,10 @@
 use denote.Ref.{now}
 use Rattle.listing.specs.Reports.{reportOf}
 use Rattle.listing.proofs.ListLaws.{as-answered}
-use Rattle.listing.proofs.ShownLaws.{shown-some, shown-none}
+use Rattle.program.proofs.ShownLaws.{shown-some, shown-none}
 use borrow.Author.Needs.{needs}
-use Rattle.listing.proofs.printing.shown.Statement.{statement}
-use Rattle.listing.proofs.printing.shown.Tie as tie
+use Rattle.program.proofs.printing.shown.Statement.{statement}
+use Rattle.program.proofs.printing.shown.Tie as tie
 
 report-requires : tie.Need-report-requires
 report-requires c κs = search needs

@@ -13,7 +13,7 @@ use Rattle.text.specs.declared.Listed.the-variants.{Count, Refused}
 use Rattle.text.specs.TextLengths.{mostText}
 use Rattle.output.specs.Output.{roomRule, heldAfter, outputCount, held}
 use Rattle.text.proofs.TextAnswers.{Answered, written}
-use Rattle.listing.specs.Reports.{shownLength}
+use Rattle.program.specs.Printing.{shownLength}
 
 -- the clauses of the call that says how many
 abbrev Shown : List ℕ → List ℕ → List ℕ → ℕ → Type 0
