@@ -4,6 +4,7 @@ pub mod WalkLaws
 pub mod Trips
 pub mod RecordLaws
 pub mod FileLaws
+pub mod FirstFaultLaws
 pub mod EncodeLaws
 pub mod OuterLaws
 pub mod SiteTrips

@@ -20,7 +20,8 @@ use Rattle.record.specs.Writer.{encode}
 use Rattle.record.proofs.EncodeLaws.{fields-small}
 use Rattle.record.proofs.ResultLaws.{found-numbers}
 use Rattle.record.proofs.OuterLaws.{site-past}
-use Rattle.record.proofs.RecordLaws.{AcceptedAt, accepted-at, after, inside, near, moved, record-take, record-moved, record-written, record-read}
+use Rattle.record.proofs.RecordLaws.{AcceptedAt, accepted-at, after, inside, near, record-take, record-written, record-read}
+use Rattle.record.proofs.FirstFaultLaws.{record-fault-near}
 use Rattle.record.proofs.SiteTrips.{walked-passes, walked-sized, walked-clean, encode-read, read-encode}
 
 -- ---- by the definition
@@ -29,10 +30,9 @@ pub site-take : (m at : ℕ) (f : List ℕ) → at + mostRecord ≤ m → siteAt
 unfolding siteAt
 site-take m at f h = record-take siteTag siteKinds m at f h
 
--- the record of f at `at` is that of what f holds from there on
-pub site-drop : (f : List ℕ) (at : ℕ) → siteAt f at ≡ moved at (siteAt (drop at f) 0)
+pub site-fault-near : (f : List ℕ) (at : ℕ) {rule : Rule} {i : ℕ} → siteAt f at ≡ fault rule i → i ≤ at + mostRecord
 unfolding siteAt
-site-drop f at = let e : at + 0 ≡ at = omega arith in rw e at (record-moved siteTag siteKinds at (drop at f) 0)
+site-fault-near f at e = record-fault-near siteTag siteKinds (drop at f) at e
 
 module _ (f : List ℕ) (at : ℕ) {x : Site × ℕ} (e : siteAt f at ≡ good x) where
   here : AcceptedAt siteTag siteKinds (drop at f) at x

@@ -1,11 +1,13 @@
 -- Laws of a file of site records.
-use Prim.Native.Nat.{ℕ, _≤_, _<_}
+use Prim.Native.Nat.{ℕ, _*_, _≤_, _<_}
 use mathlib.Core.Path.{_≡_, sym, _∙_}
+use mathlib.Core.Logic.{_⊎_}
 use mathlib.Core.List.{List, map}
 use native.Mathlib.Omega.{arith}
 use lib.ListN.{length, take}
 use Rattle.site.specs.Ranges.{mostRecords}
 use Rattle.site.specs.declared.Site.{Site}
+use Rattle.site.specs.declared.Rule.{Rule}
 use Rattle.site.specs.declared.Rule.the-variants.{NoBytes}
 use Rattle.site.specs.declared.Checked.the-variants.{Passed}
 use Rattle.site.specs.Check.{siteRule}
@@ -13,13 +15,15 @@ use Rattle.record.specs.Result.{good, fault}
 use Rattle.field.specs.Field.{siteKind}
 use Rattle.record.specs.Outer.{siteAt}
 use Rattle.record.specs.Records.{mostRecord}
+use Rattle.record.specs.FirstFault.{FirstFault}
 use Rattle.record.specs.File.{walkFile, contents, mostFile, encodeAll}
 use Rattle.field.specs.Clean.{clean, Sized, AllBytes}
 use Rattle.record.specs.Writer.{encode}
 use Rattle.field.proofs.All.{All}
 use Rattle.record.proofs.EncodeLaws.{length-encode}
 use Rattle.record.proofs.FileLaws.{contents-none, contents-some, contents-every, contents-more, contents-written, contents-read}
-use Rattle.record.proofs.Place.{site-take, site-near, site-after, site-passes, site-bytes, site-read}
+use Rattle.record.proofs.FirstFaultLaws.{first-in-file, file-fault-near}
+use Rattle.record.proofs.Place.{site-take, site-fault-near, site-near, site-after, site-passes, site-bytes, site-read}
 
 module _ (f : List ℕ) where
   pub sites-none : length f ≤ 0 → contents f ≡ fault NoBytes 0
@@ -29,6 +33,17 @@ module _ (f : List ℕ) where
   pub sites-some : 0 < length f → contents f ≡ walkFile (siteAt f) (length f) mostRecords 0
   unfolding contents
   sites-some h = contents-some (siteAt f) (length f) h
+
+  -- a fault is the first from the left
+  pub sites-first-fault : {rule : Rule} {at : ℕ} → contents f ≡ fault rule at
+      → ((length f ≡ 0) × (rule ≡ NoBytes) × (at ≡ 0)) ⊎ FirstFault (siteAt f) (length f) mostRecords 0 rule at
+  unfolding contents
+  sites-first-fault {rule} {at} e = first-in-file (siteAt f) (length f) rule at e
+
+  -- and lies at most 500 records of the greatest length from the start
+  pub sites-fault-near : {rule : Rule} {at : ℕ} → contents f ≡ fault rule at → at ≤ mostRecord * mostRecords
+  unfolding contents
+  sites-fault-near e = file-fault-near (siteAt f) mostRecord (λ at x r. site-near f at r) (λ at rule i r. site-fault-near f at r) (length f) e
 
   -- the sites of a file that passes: at most 500, and each passes the check
   pub sites-checked : (ss : List Site) → contents f ≡ good ss → (length ss ≤ mostRecords) × All (λ s. siteRule s ≡ Passed) ss

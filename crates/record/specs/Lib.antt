@@ -5,4 +5,5 @@ pub mod Records
 pub mod ReadAnswers
 pub mod Outer
 pub mod File
+pub mod FirstFault
 pub mod Writer
