@@ -22,7 +22,7 @@ use Rattle.record.specs.FieldParts.{statedLen, valueAt, restAt}
 use Rattle.record.specs.Fields.{headRule, walkFields, fieldsIn}
 use Rattle.record.specs.Records.{mostRecord, outerRule, ending, recordIn}
 use Rattle.record.specs.File.{Contents, first, onto, walkFile, contentsBy}
-use Rattle.record.specs.FirstFault.{Taken, none, next, DueBroken, BytesLeft, FirstField, OuterBroken, InnerBroken, Through, RecordBroken, OneTooMany, FirstFault}
+use Rattle.record.specs.FirstFault.{FieldsAccepted, none, next, DueBroken, BytesLeft, FirstField, OuterBroken, InnerBroken, RecordsAccepted, RecordBroken, OneTooMany, FirstFault}
 use Rattle.record.proofs.WalkLaws.{head-passed}
 use Rattle.record.proofs.RecordLaws.{outer-passed}
 
@@ -170,7 +170,7 @@ module _ {A : Type 0} (read : ℕ → Result (A × ℕ)) (len : ℕ) (rule : Rul
 -- ---- where a fault can lie
 
 module _ {A : Type 0} (K : Kind A) where
-  taken-length : {x y : A} {bs cs ts : List ℕ} {at end : ℕ} → Taken K x bs at ts y cs end → end + length cs ≡ at + length bs
+  taken-length : {x y : A} {bs cs ts : List ℕ} {at end : ℕ} → FieldsAccepted K x bs at ts y cs end → end + length cs ≡ at + length bs
   taken-length none = refl
   taken-length {bs = bs} (next t h r more) =
       omega (arith, taken-length more, length-drop (3 + statedLen bs) bs, head-passed t bs h .inside)
@@ -187,7 +187,7 @@ record-fault-near known kind bs start {rule} {at} e =
     (first-in-record known kind bs start rule at e)
 
 module _ {A : Type 0} (read : ℕ → Result (A × ℕ)) (w : ℕ) (near : (at : ℕ) (x : A × ℕ) → read at ≡ good x → x .1 ≤ at + w) where
-  through-near : {from to : ℕ} {xs : List A} → Through read from xs to → to ≤ from + w * length xs
+  through-near : {from to : ℕ} {xs : List A} → RecordsAccepted read from xs to → to ≤ from + w * length xs
   through-near none = omega arith
   through-near {from} {to} (next {xs = xs} x r more) =
       let step : w * suc (length xs) ≡ w + w * length xs = omega arith in

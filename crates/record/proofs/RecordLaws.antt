@@ -4,7 +4,6 @@ use mathlib.Core.Logic.{⊎-elim}
 use mathlib.Core.Bool.{Bool, true, false}
 use mathlib.Core.List.{List, [], _∷_, _++_}
 use Prim.Native.Nat.{ℕ, zero, suc, _+_, _-_, _≤_, _<_}
-use native.Mathlib.Nat.{add-assoc}
 use native.Mathlib.Omega.{arith}
 use lib.Dec.{ltb, eqb}
 use lib.ListN.{length, getD, take, drop, length-drop}
@@ -24,8 +23,7 @@ use Rattle.record.specs.Fields.{fieldsIn, encodeFields, encodeAs}
 use Rattle.record.specs.Records.{mostRecord, outerRule, ending, recordIn, onlyOne, single}
 use Rattle.field.specs.Clean.{AllBytes}
 use Rattle.record.proofs.FieldBytes.{stated, field-length, field-first, field-value, value-bytes, field-front, length-whole}
-use Rattle.record.proofs.ResultLaws.{not-good, good-same, unless-good, ending-good, movedResult}
-use Rattle.record.proofs.WalkLaws.{walk-moved}
+use Rattle.record.proofs.ResultLaws.{not-good, good-same, unless-good, ending-good}
 
 pub drop-take : (n m : ℕ) (l : List ℕ) → drop n (take m l) ≡ take (m - n) (drop n l)
 drop-take zero m l = let e : m ≡ m - zero = omega arith in ap (λ (k : ℕ). take k l) e
@@ -89,22 +87,6 @@ module _ (known : ℕ → Bool) where
     unfolding outerRule
     outer-large h cs l e = rw (e, lt-ltb 255 (statedLen bs) h, le-ltb (length cs) 3 l)
 
-module _ {A : Type 0} where
-  -- a record that was found, its offsets moved
-  unfoldable pub moved : ℕ → Result (A × ℕ) → Result (A × ℕ)
-  moved d (good x) = good (x .0, d + x .1)
-  moved d (fault r i) = fault r (d + i)
-
-  ending-moved : (d end : ℕ) (r : Result A) → ending (d + end) (movedResult d r) ≡ moved d (ending end r)
-  unfolding ending movedResult moved
-  ending-moved d end (good x) = refl
-  ending-moved d end (fault r i) = refl
-
-  unless-place : (d : ℕ) (c : Checked) (at : ℕ) (r : Result (A × ℕ)) → unless c (d + at) (moved d r) ≡ moved d (unless c at r)
-  unfolding unless moved
-  unless-place d Passed at r = refl
-  unless-place d (Broken k) at r = refl
-
 module _ {A : Type 0} (known : ℕ → Bool) (kind : ℕ → Kind A) where
   -- ---- what stands past the longest record does not matter
 
@@ -129,14 +111,6 @@ module _ {A : Type 0} (known : ℕ → Bool) (kind : ℕ → Kind A) where
   -- a file cut past the longest record has the same record there
   pub record-take : (m at : ℕ) (f : List ℕ) → at + mostRecord ≤ m → recordIn known kind (drop at (take m f)) at ≡ recordIn known kind (drop at f) at
   record-take m at f h = rw (drop-take at m f) (record-front (m - at) (drop at f) at (omega arith))
-
-  -- ---- the same bytes at another offset: the same record, its offsets moved
-
-  pub record-moved : (d : ℕ) (bs : List ℕ) (at : ℕ) → recordIn known kind bs (d + at) ≡ moved d (recordIn known kind bs at)
-  unfolding recordIn
-  record-moved d bs at =
-      let K = kind (getD bs 0 0) in
-      rw (add-assoc d at 3, walk-moved K d (K .due) (K .blank) (valueAt bs) (at + 3), add-assoc d (at + 3) (statedLen bs), ending-moved) (unless-place d (outerRule known bs) at _)
 
   -- ---- a record that was accepted
 

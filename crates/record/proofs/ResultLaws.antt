@@ -33,16 +33,6 @@ module _ {A : Type 0} where
       good-pair y end x e = cc
   ending-good end (fault r i) e = let z : _≡_ {A = ℕ} 0 1 = cc in absurd (omega arith)
 
-  -- the same result with its offsets moved
-  unfoldable pub movedResult : ℕ → Result A → Result A
-  movedResult d (good x) = good x
-  movedResult d (fault r i) = fault r (d + i)
-
-  pub unless-moved : (d : ℕ) (c : Checked) (at : ℕ) (r : Result A) → unless c (d + at) (movedResult d r) ≡ movedResult d (unless c at r)
-  unfolding unless movedResult
-  unless-moved d Passed at r = refl
-  unless-moved d (Broken k) at r = refl
-
 -- ---- what a call answers, and its numbers
 
 pub read-numbers : (q : Result Site) → outcomeNumbers (readOf q .outcome) ≡ resultNumbers q

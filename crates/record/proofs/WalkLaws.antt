@@ -3,7 +3,7 @@ use mathlib.Core.Path.{_≡_, refl, sym, ap, _∙_}
 use mathlib.Core.Bool.{Bool, true, false}
 use mathlib.Core.List.{List, [], _∷_, _++_}
 use Prim.Native.Nat.{ℕ, _+_, _-_, _≤_, _<_}
-use native.Mathlib.Nat.{add-assoc, add-sub-cancel-left}
+use native.Mathlib.Nat.{add-sub-cancel-left}
 use native.Mathlib.Numerals.{add-one}
 use native.Mathlib.Omega.{arith}
 use lib.Dec.{ltb, eqb}
@@ -26,7 +26,7 @@ use Rattle.record.specs.FieldParts.{statedLen, valueAt, restAt, fieldOf}
 use Rattle.field.specs.Kind.{Kind, fieldRule}
 use Rattle.record.specs.Fields.{headRule, walkFields}
 use Rattle.record.proofs.FieldBytes.{stated, field-length, field-tag}
-use Rattle.record.proofs.ResultLaws.{not-good, good-same, unless-good, movedResult, unless-moved}
+use Rattle.record.proofs.ResultLaws.{not-good, good-same, unless-good}
 
 -- ---- the head of a field
 
@@ -119,20 +119,6 @@ module _ {A : Type 0} (K : Kind A) where
       let p = unless-good (headRule t bs) at _ e in
       let q = unless-good (fieldRule K t (valueAt bs) x) at _ (p .1) in
       record { head = head-passed t bs (p .0); passed = q .0; more = q .1 }
-
-  -- ---- the same bytes at another offset
-
-  end-moved : (d : ℕ) (b : Bool) (x : A) (at : ℕ) (r : Rule) → pick b (good x) (fault r (d + at)) ≡ movedResult d (pick b (good x) (fault r at))
-  unfolding movedResult
-  end-moved d true x at r = refl
-  end-moved d false x at r = refl
-
-  pub walk-moved : (d : ℕ) (ts : List ℕ) (x : A) (bs : List ℕ) (at : ℕ) → walkFields K ts x bs (d + at) ≡ movedResult d (walkFields K ts x bs at)
-  unfolding walkFields
-  walk-moved d [] x bs at = end-moved d (eqb (length bs) 0) x at _
-  walk-moved d (t ∷ ts) x bs at =
-      rw (add-assoc d at (3 + statedLen bs), walk-moved d ts (K .store t (valueAt bs) x) (restAt bs) (at + (3 + statedLen bs)), unless-moved d (fieldRule K t (valueAt bs) x) at)
-      (unless-moved d (headRule t bs) at _)
 
 -- ---- a step of the site's walk, as the code makes it
 

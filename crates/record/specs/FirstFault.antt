@@ -16,12 +16,12 @@ use Rattle.record.specs.Fields.{headRule}
 use Rattle.record.specs.Records.{outerRule}
 
 -- the fields ts, each accepted, lead from the value x and the bytes bs at an offset to the value y and the bytes cs at another
-pub data Taken {A : Type 0} (K : Kind A) : A → List ℕ → ℕ → List ℕ → A → List ℕ → ℕ → Type 0 where
-  none : {x : A} {bs : List ℕ} {at : ℕ} → Taken K x bs at [] x bs at
+pub data FieldsAccepted {A : Type 0} (K : Kind A) : A → List ℕ → ℕ → List ℕ → A → List ℕ → ℕ → Type 0 where
+  none : {x : A} {bs : List ℕ} {at : ℕ} → FieldsAccepted K x bs at [] x bs at
   next : {x y : A} {bs cs ts : List ℕ} {at end : ℕ} (t : ℕ)
       → headRule t bs ≡ Passed → fieldRule K t (valueAt bs) x ≡ Passed
-      → Taken K (K .store t (valueAt bs) x) (restAt bs) (at + (3 + statedLen bs)) ts y cs end
-      → Taken K x bs at (t ∷ ts) y cs end
+      → FieldsAccepted K (K .store t (valueAt bs) x) (restAt bs) (at + (3 + statedLen bs)) ts y cs end
+      → FieldsAccepted K x bs at (t ∷ ts) y cs end
 
 -- of the tags ts those `before` are read, and the field that is due next breaks the rule, by 6, 5, 6, 5, 7 to 10
 pub record DueBroken {A : Type 0} (K : Kind A) (ts before : List ℕ) (x : A) (bs : List ℕ) (rule : Rule) : Type 0 where
@@ -41,7 +41,7 @@ pub record FirstField {A : Type 0} (K : Kind A) (ts : List ℕ) (x : A) (bs : Li
   pub before : List ℕ
   pub value : A
   pub rest : List ℕ
-  pub accepted : Taken K x bs start before value rest at
+  pub accepted : FieldsAccepted K x bs start before value rest at
   pub here : DueBroken K ts before value rest rule ⊎ BytesLeft ts before rest rule
 
 -- the record at the front of bs: its outer field breaks the rule, at its first byte
@@ -55,9 +55,9 @@ pub record InnerBroken {A : Type 0} (known : ℕ → Bool) (K : Kind A) (bs : Li
   pub inner : FirstField K (K .due) (K .blank) (valueAt bs) (start + 3) rule at
 
 -- the records xs, each accepted, lead from one offset to another
-pub data Through {A : Type 0} (read : ℕ → Result (A × ℕ)) : ℕ → List A → ℕ → Type 0 where
-  none : {at : ℕ} → Through read at [] at
-  next : {at end : ℕ} {xs : List A} (x : A × ℕ) → read at ≡ good x → Through read (x .1) xs end → Through read at (x .0 ∷ xs) end
+pub data RecordsAccepted {A : Type 0} (read : ℕ → Result (A × ℕ)) : ℕ → List A → ℕ → Type 0 where
+  none : {at : ℕ} → RecordsAccepted read at [] at
+  next : {at end : ℕ} {xs : List A} (x : A × ℕ) → read at ≡ good x → RecordsAccepted read (x .1) xs end → RecordsAccepted read at (x .0 ∷ xs) end
 
 -- fewer records than may come are before it, and the record is faulty
 pub record RecordBroken {A : Type 0} (read : ℕ → Result (A × ℕ)) (most : ℕ) (before : List A) (start : ℕ) (rule : Rule) (at : ℕ) : Type 0 where
@@ -74,6 +74,6 @@ pub record OneTooMany {A : Type 0} (most : ℕ) (before : List A) (start : ℕ) 
 pub record FirstFault {A : Type 0} (read : ℕ → Result (A × ℕ)) (len most from : ℕ) (rule : Rule) (at : ℕ) : Type 0 where
   pub before : List A
   pub start : ℕ
-  pub accepted : Through read from before start
+  pub accepted : RecordsAccepted read from before start
   pub left : start < len
   pub here : RecordBroken read most before start rule at ⊎ OneTooMany most before start rule at
