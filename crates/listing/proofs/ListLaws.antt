@@ -1,5 +1,5 @@
 -- From the rows of a file to what is listed and printed.
-use Prim.Native.Nat.{ℕ}
+use Prim.Native.Nat.{ℕ, _≤_}
 use mathlib.Core.Path.{_≡_, refl, sym, _∙_}
 use mathlib.Core.List.{List, map}
 use native.Mathlib.Omega.{arith}
@@ -9,14 +9,14 @@ use Rattle.site.specs.declared.Site.{Site}
 use Rattle.site.specs.declared.Rule.{Rule}
 use Rattle.record.specs.declared.Outcome.the-variants.{Accepted, Refused as Broken}
 use Rattle.text.specs.declared.Listed.{Listed}
-use Rattle.text.specs.declared.Listed.the-variants.{Refused}
+use Rattle.text.specs.declared.Listed.the-variants.{Count, Refused}
 use Rattle.text.specs.TextLengths.{mostText}
 use Rattle.text.specs.Listing.{listing}
 use Rattle.text.specs.RefusalLine.{refusal}
 use Rattle.output.specs.Output.{heldNumbers, held}
-use Rattle.text.specs.TextAnswer.{listedNumbers, textAnswer, RoomEnough}
+use Rattle.text.specs.TextAnswer.{listedNumbers, textAnswer}
 use Rattle.text.specs.Marks.{Marked}
-use Rattle.text.proofs.TextAnswers.{Answered, written}
+use Rattle.text.proofs.TextAnswers.{Answered, count-is, written}
 use Rattle.listing.specs.declared.Walked.{Walked}
 use Rattle.record.specs.Result.{good, fault}
 use Rattle.record.specs.File.{Contents, contents}
@@ -55,7 +55,7 @@ found-fault c is e = walked-fault c (rw is at e)
 pub by-sites : {w : Walked} {c : Contents Site} (x : Filled w c) (d : List ℕ) {e : List ℕ} {r : Listed}
     → (r ≡ textAnswer (listing (take (w .count) (w .rows))) d)
     × ((e ≡ held (listing (take (w .count) (w .rows))) d)
-    × ((listedNumbers r ≡ heldNumbers (listing (take (w .count) (w .rows))) d) × (RoomEnough mostText (listing (take (w .count) (w .rows))) d r × Marked (take (w .count) (w .rows)) e r)))
+    × ((listedNumbers r ≡ heldNumbers (listing (take (w .count) (w .rows))) d) × ((length (listing (take (w .count) (w .rows))) ≤ mostText) × Marked (take (w .count) (w .rows)) e r)))
     → Answered mostText (listing (map rowOf (x .ss))) d e r
 by-sites x d p = rw (← x .rows) (p .0, (p .1 .0, (p .1 .1 .0, p .1 .1 .1 .0)))
 
@@ -64,20 +64,23 @@ by-sites x d p = rw (← x .rows) (p .0, (p .1 .0, (p .1 .1 .0, p .1 .1 .1 .0)))
 -- the clauses of the call that lists
 abbrev Clauses : List ℕ → List ℕ → List ℕ → Listed → Type 0
 Clauses f d e r =
-    (r ≡ listAnswer (contents f) d) × ((e ≡ listHeld (contents f) d) × ((listedNumbers r ≡ listNumbers (contents f) d) × Written3 f e r))
+    (r ≡ listAnswer (contents f) d) × ((e ≡ listHeld (contents f) d) × ((listedNumbers r ≡ listNumbers (contents f) d) × (((n : ℕ) → r ≡ Count n → n ≤ mostText) × Written3 f e r)))
 
 written3 : (f d : List ℕ) {e : List ℕ} {r : Listed} (ss : List Site) → contents f ≡ good ss → Answered mostText (listing (map rowOf ss)) d e r → Written3 f e r
 written3 f d {e} {r} ss h a n b ts g =
     let same : ss ≡ ts = cc in
     rw (written (listing (map rowOf ss)) d e r (a .0) (a .1 .0) n b, same) (listing-says f ts g)
 
+counted : (ss : List Site) (d : List ℕ) {e : List ℕ} {r : Listed} → Answered mostText (listing (map rowOf ss)) d e r → (n : ℕ) → r ≡ Count n → n ≤ mostText
+counted ss d {e} {r} a n b = omega (arith, count-is (listing (map rowOf ss)) d r (a .0) n b, a .1 .1 .1)
+
 pub listed-sites : (f d : List ℕ) {e : List ℕ} {r : Listed} (ss : List Site) → contents f ≡ good ss → Answered mostText (listing (map rowOf ss)) d e r → Clauses f d e r
 unfolding listAnswer listHeld listNumbers
-listed-sites f d ss h a = (rw h (a .0), (rw h (a .1 .0), (rw h (a .1 .1 .0), written3 f d ss h a)))
+listed-sites f d ss h a = (rw h (a .0), (rw h (a .1 .0), (rw h (a .1 .1 .0), (counted ss d a, written3 f d ss h a))))
 
 pub listed-fault : (f d : List ℕ) {rule : Rule} {at : ℕ} → contents f ≡ fault rule at → Clauses f d d (Refused rule at)
 unfolding listAnswer listHeld listNumbers listedNumbers
-listed-fault f d h = (rw h, (rw h, (rw h, λ n b. let z : _≡_ {A = ℕ} 0 1 = cc in absurd (omega arith))))
+listed-fault f d h = (rw h, (rw h, (rw h, (λ n b. let z : _≡_ {A = ℕ} 0 1 = cc in absurd (omega arith), λ n b. let z : _≡_ {A = ℕ} 0 1 = cc in absurd (omega arith)))))
 
 -- ---- the report
 
@@ -85,7 +88,7 @@ listed-fault f d h = (rw h, (rw h, (rw h, λ n b. let z : _≡_ {A = ℕ} 0 1 = 
 abbrev pub Reported : List ℕ → List ℕ → List ℕ → Listed → Type 0
 Reported f d e r =
     (r ≡ textAnswer (reportOf f) d)
-    × ((e ≡ held (reportOf f) d) × ((listedNumbers r ≡ heldNumbers (reportOf f) d) × (RoomEnough mostText (reportOf f) d r × Written3 f e r)))
+    × ((e ≡ held (reportOf f) d) × ((listedNumbers r ≡ heldNumbers (reportOf f) d) × ((length (reportOf f) ≤ mostText) × Written3 f e r)))
 
 reported : (f d : List ℕ) {e : List ℕ} {r : Listed} → Answered mostText (reportOf f) d e r → Written3 f e r → Reported f d e r
 reported f d a w = (a .0, (a .1 .0, (a .1 .1 .0, (a .1 .1 .1, w))))

@@ -12,6 +12,7 @@ use Rattle.text.specs.declared.Listed.{Listed}
 use Rattle.text.specs.declared.Listed.the-variants.{Count, Refused}
 use Rattle.text.specs.TextLengths.{mostText}
 use Rattle.output.specs.Output.{roomRule, heldAfter, outputCount, held}
+use Rattle.output.proofs.OutputLaws.{room-missing}
 use Rattle.text.proofs.TextAnswers.{Answered, written}
 use Rattle.program.specs.Printing.{shownLength}
 
@@ -48,4 +49,4 @@ shown-none text d {e} {r} b a = go (roomRule (length text) (length d)) refl
 
     go : (t : Checked) → roomRule (length text) (length d) ≡ t → Shown text d e 0
     go Passed t = clash (rw t at (a .0))
-    go (Broken x) t = ((omega arith, refl), (rw t, (a .1 .0, λ m. clash (a .1 .1 .1 m))))
+    go (Broken x) t = ((omega arith, refl), (rw t, (a .1 .0, λ m. absurd (omega (arith, room-missing (length text) (length d) t, a .1 .1 .1)))))

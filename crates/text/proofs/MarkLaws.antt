@@ -1,5 +1,5 @@
 -- The lines of a listing, and the last word of each.
-use Prim.Native.Nat.{ℕ, zero, suc, _+_, _<_}
+use Prim.Native.Nat.{ℕ, zero, suc, _+_, _≤_, _<_}
 use mathlib.Core.Path.{_≡_, refl, ap, _∙_}
 use mathlib.Core.Bool.{true}
 use mathlib.Core.List.{List, [], _∷_, _++_, append-assoc, map}
@@ -17,7 +17,7 @@ use Rattle.judgement.specs.Verdicts.{verdictWord}
 use Rattle.text.specs.Line.{noRow, numbersOf, nameText, spaced, column, body, line}
 use Rattle.text.specs.Listing.{headText, header, listing}
 use Rattle.output.specs.Output.{heldNumbers, held}
-use Rattle.text.specs.TextAnswer.{listedNumbers, textAnswer, RoomEnough}
+use Rattle.text.specs.TextAnswer.{listedNumbers, textAnswer}
 use Rattle.text.specs.Words.{split, lastWord, lineAt, free}
 use Rattle.text.specs.Marks.{Plain, Marked}
 use Rattle.text.proofs.TextAnswers.{Answered, written}
@@ -105,5 +105,5 @@ marked rs d e r a n k b p l = rw (written (listing rs) d e r (a .0) (a .1 .0) n 
 -- the clauses of a call that lists
 pub and-marked : (rs : List Row) (d : List ℕ) {e : List ℕ} {r : Listed} → Answered mostText (listing rs) d e r
     → (r ≡ textAnswer (listing rs) d)
-    × ((e ≡ held (listing rs) d) × ((listedNumbers r ≡ heldNumbers (listing rs) d) × (RoomEnough mostText (listing rs) d r × Marked rs e r)))
+    × ((e ≡ held (listing rs) d) × ((listedNumbers r ≡ heldNumbers (listing rs) d) × ((length (listing rs) ≤ mostText) × Marked rs e r)))
 and-marked rs d {e} {r} a = (a .0, (a .1 .0, (a .1 .1 .0, (a .1 .1 .1, marked rs d e r a))))

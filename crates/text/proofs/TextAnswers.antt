@@ -1,6 +1,6 @@
 -- The answer and the buffer, where the text does not fit and where it is written.
 use Prim.Native.Nat.{ℕ, _≤_, _<_}
-use mathlib.Core.Path.{_≡_, refl, ap}
+use mathlib.Core.Path.{_≡_, refl, sym, ap, _∙_}
 use mathlib.Core.List.{List, _++_}
 use native.Mathlib.Omega.{arith}
 use lib.ListN.{length, take, drop}
@@ -15,26 +15,35 @@ use Rattle.output.proofs.WritingLaws.{in-front}
 use Rattle.output.proofs.OutputLaws.{room-enough, room-short}
 use Rattle.text.specs.declared.Listed.{Listed}
 use Rattle.text.specs.declared.Listed.the-variants.{Count, Refused}
-use Rattle.text.specs.TextAnswer.{listedNumbers, textAnswer, RoomEnough}
+use Rattle.text.specs.TextAnswer.{listedNumbers, textAnswer}
 
--- the clauses of a call that writes text into d, where `most` bytes are enough
+-- the clauses of a call that writes text into d, a text of at most `most` bytes
 abbrev pub Answered : ℕ → List ℕ → List ℕ → List ℕ → Listed → Type 0
-Answered most text d e r = (r ≡ textAnswer text d) × ((e ≡ held text d) × ((listedNumbers r ≡ heldNumbers text d) × RoomEnough most text d r))
+Answered most text d e r = (r ≡ textAnswer text d) × ((e ≡ held text d) × ((listedNumbers r ≡ heldNumbers text d) × (length text ≤ most)))
 
 pub text-refused : {most : ℕ} (text d : List ℕ) → length d < length text → length text ≤ most → Answered most text d d (Refused BufferShort 0)
 unfolding listedNumbers answerIf heldAfter outputNumbers
 text-refused text d h l =
     let short = room-short (length text) (length d) h in
-    (rw short, (rw short, (rw short, λ m. absurd (omega arith))))
+    (rw short, (rw short, (rw short, l)))
 
-pub text-printed : {most : ℕ} {d e : List ℕ} {r : ℕ} (text : List ℕ) → Wrote d 0 text e r → length text ≤ length d → Answered most text d e (Count r)
+pub text-printed : {most : ℕ} {d e : List ℕ} {r : ℕ} (text : List ℕ) → Wrote d 0 text e r → length text ≤ length d → length text ≤ most → Answered most text d e (Count r)
 unfolding listedNumbers answerIf heldAfter outputNumbers
-text-printed {most} {d} {e} {r} text w h =
+text-printed {most} {d} {e} {r} text w h l =
     let f = in-front w h in
     let long = room-enough (length text) (length d) h in
-    (rw long (ap Count (f .0)), (rw long (f .1), (rw long (ap (λ (k : ℕ). (0, k)) (f .0)), λ m. ap Count (f .0))))
+    (rw long (ap Count (f .0)), (rw long (f .1), (rw long (ap (λ (k : ℕ). (0, k)) (f .0)), l)))
 
--- where bytes were written, they are the text
+-- where bytes were written, there are as many as the text has
+pub count-is : (text d : List ℕ) (r : Listed) → r ≡ textAnswer text d → (n : ℕ) → r ≡ Count n → n ≡ length text
+unfolding answerIf
+count-is text d r a n b = go (roomRule (length text) (length d)) (sym b ∙ a)
+  where
+    go : (c : Checked) → Count n ≡ answerIf Count (λ rule. Refused rule 0) c (length text) → n ≡ length text
+    go Passed e = cc
+    go (Broken k) e = let z : _≡_ {A = ℕ} 0 1 = cc in absurd (omega arith)
+
+-- and they are the text
 pub written : (text d e : List ℕ) (r : Listed) → r ≡ textAnswer text d → e ≡ held text d → (n : ℕ) → r ≡ Count n → take n e ≡ text
 unfolding answerIf heldAfter
 written text d e r a h n b = go (roomRule (length text) (length d)) refl

@@ -1,7 +1,7 @@
 -- A row's line: name, four loads, region, two exceedances, mark, with single spaces.
-use Prim.Native.Nat.{ℕ, _^_, _≤_, _<_}
+use Prim.Native.Nat.{ℕ}
 use mathlib.Core.List.{List, [], _∷_, _++_}
-use lib.ListN.{length, getD, take}
+use lib.ListN.{take}
 use Rattle.loads.specs.declared.Loads.{Loads}
 use Rattle.judgement.specs.declared.Verdict.the-variants.{Within}
 use Rattle.judgement.specs.Verdicts.{verdictNumbers, verdictWord}
@@ -43,8 +43,3 @@ body r = nameText r ++ each column (numbersOf r) ++ spaced (verdictWord (r .verd
 
 unfoldable pub line : Row → List ℕ
 line r = body r ++ (10 ∷ [])
-
--- a name of at most 8 bytes, and numbers of 64 bits
-pub record Narrow (r : Row) : Type 0 where
-  pub name : length (nameText r) ≤ 8
-  pub numbers : (i : ℕ) → getD (numbersOf r) i 0 < 2 ^ 64

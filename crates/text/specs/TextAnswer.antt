@@ -17,7 +17,3 @@ listedNumbers (Refused rule at) = (ruleNumber rule, at)
 -- what is answered where text is to be written into d: 11 at 0 exactly where d is shorter
 abbrev pub textAnswer : List ℕ → List ℕ → Listed
 textAnswer text d = answerIf Count (λ rule. Refused rule 0) (roomRule (length text) (length d)) (length text)
-
--- `most` bytes are enough
-abbrev pub RoomEnough : ℕ → List ℕ → List ℕ → Listed → Type 0
-RoomEnough most text d r = most ≤ length d → r ≡ Count (length text)

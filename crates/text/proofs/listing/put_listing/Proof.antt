@@ -63,7 +63,7 @@ returns-2 c =
     let e = ap (λ (rs : List Row). length (each line rs)) (used j .1) in
     let w : Wrote (now (s .args .out)) 0 (listing rows) (c .before .before .put-lines .last .0) (c .before .before .put-lines .result) =
     rw (used j .1) at (then (c .before .before .before .before .before .before .put-bytes .ensures .fits (omega arith)) (c .before .before .put-lines .ensures)) in
-    and-marked rows (now (s .args .out)) (text-printed (listing rows) w (omega (arith, length-listing rows)))
+    and-marked rows (now (s .args .out)) (text-printed (listing rows) w (omega (arith, length-listing rows)) (omega (arith, length-listing rows)))
 
 pub put-listing-spec : {M : Type 1} → statement M
 put-listing-spec =

@@ -84,6 +84,7 @@ returns-2 c =
     (text-printed text
     (then (then (then (then (b1 .put-bytes .ensures .fits (omega arith)) (d2 .put-decimal .ensures)) (b3 .put-bytes2 .ensures .fits (room b3))) (d4 .put-decimal2 .ensures))
     (stored (d4 .put-decimal2 .last .0) (d4 .put-decimal2 .result) 10))
+    (omega (arith, b1 .before .before .before, length-refusal (n .rule-number .result) (s .args .at)))
     (omega (arith, b1 .before .before .before, length-refusal (n .rule-number .result) (s .args .at))))
 
 pub put-refusal-spec : {M : Type 1} → statement M
