@@ -1,3 +1,4 @@
 pub mod CodeLaws
+pub mod FileCallLaws
 pub mod SiteValueLaws
 pub mod RewriteLaws

@@ -1,7 +1,7 @@
 // A single record, read and written again.
 ghost use mathlib.Core.Path.{_≡_};
 ghost use Rattle.record.specs.Outer.{readRecord};
-ghost use Rattle.exports.specs.Results.{rewriteCode, rewriteHeld};
+ghost use Rattle.exports.specs.Results.{listedCode, Told, rewriteAnswer, rewriteHeld};
 use crate::codes::refusal_code;
 use crate::codes::refusal_code_at;
 use record::Outcome;
@@ -11,8 +11,9 @@ use record::write_record;
 
 #[no_mangle]
 pub extern "C" fn forest_rewrite(input: &[u8], out: &mut [u8]) -> u64
-    ensures answer { λ r. ⌜ r ≡ rewriteCode (readRecord (now (input .entry)) .outcome) (now (input .entry)) (now (out .entry)) ⌝ }
+    ensures answer { λ r. ⌜ r ≡ listedCode (rewriteAnswer (readRecord (now (input .entry)) .outcome) (now (input .entry)) (now (out .entry))) ⌝ }
     ensures buffer { λ _. ⌜ now (out .exit) ≡ rewriteHeld (readRecord (now (input .entry)) .outcome) (now (input .entry)) (now (out .entry)) ⌝ }
+    ensures told { λ r. ⌜ Told (rewriteAnswer (readRecord (now (input .entry)) .outcome) (now (input .entry)) (now (out .entry))) r ⌝ }
 {
     let read = read_record(input);
     let site = read.site;

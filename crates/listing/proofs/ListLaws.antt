@@ -1,5 +1,5 @@
 -- From the rows of a file to what is listed and printed.
-use Prim.Native.Nat.{ℕ, _≤_}
+use Prim.Native.Nat.{ℕ, _*_, _≤_}
 use mathlib.Core.Path.{_≡_, refl, sym, _∙_}
 use mathlib.Core.List.{List, map}
 use native.Mathlib.Omega.{arith}
@@ -16,11 +16,14 @@ use Rattle.text.specs.RefusalLine.{refusal}
 use Rattle.output.specs.Output.{heldNumbers, held}
 use Rattle.text.specs.TextAnswer.{listedNumbers, textAnswer}
 use Rattle.text.specs.Marks.{Marked}
-use Rattle.text.proofs.TextAnswers.{Answered, count-is, written}
+use Rattle.text.proofs.TextAnswers.{Answered, count-is, refused-at-0, written}
 use Rattle.listing.specs.declared.Walked.{Walked}
 use Rattle.record.specs.Result.{good, fault}
 use Rattle.record.specs.File.{Contents, contents}
+use Rattle.site.specs.Ranges.{mostRecords}
+use Rattle.record.specs.Records.{mostRecord}
 use Rattle.record.proofs.ResultLaws.{not-good}
+use Rattle.record.proofs.SiteFile.{sites-fault-near}
 use Rattle.listing.specs.Rows.{rowOf, padded, walkedOf}
 use Rattle.listing.specs.Reports.{listAnswer, listNumbers, listHeld, printed, reportOf}
 use Rattle.listing.specs.PrintedDemand3.{Written3}
@@ -81,6 +84,15 @@ listed-sites f d ss h a = (rw h (a .0), (rw h (a .1 .0), (rw h (a .1 .1 .0), (co
 pub listed-fault : (f d : List ℕ) {rule : Rule} {at : ℕ} → contents f ≡ fault rule at → Clauses f d d (Refused rule at)
 unfolding listAnswer listHeld listNumbers listedNumbers
 listed-fault f d h = (rw h, (rw h, (rw h, (λ n b. let z : _≡_ {A = ℕ} 0 1 = cc in absurd (omega arith), λ n b. let z : _≡_ {A = ℕ} 0 1 = cc in absurd (omega arith)))))
+
+-- no refusal lies past 500 records of the greatest length
+pub list-fault-near : (f d : List ℕ) {rule : Rule} {at : ℕ} → listAnswer (contents f) d ≡ Refused rule at → at ≤ mostRecord * mostRecords
+unfolding listAnswer
+list-fault-near f d {rule} {at} e = by-contents (contents f) refl e
+  where
+    by-contents : (c : Contents Site) → contents f ≡ c → listAnswer c d ≡ Refused rule at → at ≤ mostRecord * mostRecords
+    by-contents (good ss) q e = omega (arith, refused-at-0 (listing (map rowOf ss)) d e)
+    by-contents (fault k i) q e = let same : i ≡ at = cc in omega (arith, sites-fault-near f q)
 
 -- ---- the report
 

@@ -1,27 +1,32 @@
 -- Reading and writing undo each other.
-use mathlib.Core.Path.{_≡_, sym, ap, _∙_}
+use mathlib.Core.Path.{_≡_, refl, sym, ap, _∙_}
+use mathlib.Core.Bool.{Bool, true, false}
 use mathlib.Core.List.{List, [], append-nil}
+use lib.Dec.{eqb}
 use Prim.Native.Nat.{ℕ, _+_, _-_, _≤_}
 use native.Mathlib.Omega.{arith}
 use lib.ListN.{length, take}
 use lib.Seq.{take-all}
 use Rattle.site.specs.declared.Site.{Site}
+use Rattle.site.specs.declared.Rule.{Rule}
+use Rattle.site.specs.declared.Rule.the-variants.{NoBytes, TooMany}
+use Rattle.site.specs.Choice.{pick}
 use Rattle.site.specs.declared.Checked.the-variants.{Passed}
 use Rattle.site.specs.Check.{siteRule}
 use Rattle.field.specs.Field.{siteKind}
 use Rattle.field.specs.Clean.{clean, Sized, AllBytes}
 use Rattle.record.specs.declared.Read.{Read}
 use Rattle.record.specs.declared.Outcome.{Outcome}
-use Rattle.record.specs.declared.Outcome.the-variants.{Accepted}
-use Rattle.record.specs.Result.{good, resultNumbers}
-use Rattle.record.specs.ReadAnswers.{accepted}
-use Rattle.record.specs.Records.{recordIn}
+use Rattle.record.specs.declared.Outcome.the-variants.{Accepted, Refused}
+use Rattle.record.specs.Result.{Result, good, fault, resultNumbers}
+use Rattle.record.specs.ReadAnswers.{accepted, refusedAt, readOf}
+use Rattle.record.specs.Records.{mostRecord, recordIn, onlyOne, single}
 use Rattle.record.specs.Outer.{outcomeNumbers, siteTag, siteKinds, siteAt, onlySite, readRecord}
 use Rattle.record.specs.Writer.{encode}
 use Rattle.record.proofs.EncodeLaws.{length-encode}
 use Rattle.record.proofs.ResultLaws.{read-good, accepted-good, read-numbers}
 use Rattle.record.proofs.RecordLaws.{single-good, good-single}
-use Rattle.record.proofs.Place.{site-passes, site-sized, site-clean, site-bytes, site-read}
+use Rattle.record.proofs.Place.{site-near, site-fault-near, site-passes, site-sized, site-clean, site-bytes, site-read}
 
 -- ---- what is written is read
 
@@ -71,6 +76,26 @@ answerWith o s = record { outcome = o; site = s }
 pub accepted-is : (r : Read) → r .outcome ≡ Accepted → r ≡ accepted (r .site)
 unfolding accepted
 accepted-is r e = ap (λ (o : Outcome). answerWith o (r .site)) e
+
+-- a file that is read is one record of at most 258 bytes, and no fault lies past that
+pub read-short : (f : List ℕ) → readRecord f .outcome ≡ Accepted → length f ≤ mostRecord
+read-short f o = let e = accepted-is (readRecord f) o in omega (arith, site-near f 0 (whole (readRecord f .site) f e))
+
+pub read-fault-near : (f : List ℕ) {rule : Rule} {at : ℕ} → readRecord f .outcome ≡ Refused rule at → at ≤ mostRecord
+unfolding readRecord readOf accepted refusedAt single onlyOne
+read-fault-near f {rule} {at} o = by-length (eqb (length f) 0) o
+  where
+    by-end : (x : Site × ℕ) → siteAt f 0 ≡ good x → (b : Bool) → readOf (pick b (good (x .0)) (fault TooMany (x .1))) .outcome ≡ Refused rule at → at ≤ mostRecord
+    by-end x r true o = let z : _≡_ {A = ℕ} 0 1 = cc in absurd (omega arith)
+    by-end x r false o = let same : x .1 ≡ at = cc in omega (arith, site-near f 0 r)
+
+    by-record : (q : Result (Site × ℕ)) → siteAt f 0 ≡ q → readOf (onlyOne (length f) q) .outcome ≡ Refused rule at → at ≤ mostRecord
+    by-record (good x) r o = by-end x r (eqb (x .1) (length f)) o
+    by-record (fault k i) r o = let same : i ≡ at = cc in omega (arith, site-fault-near f 0 r)
+
+    by-length : (b : Bool) → readOf (pick b (fault NoBytes 0) (onlyOne (length f) (siteAt f 0))) .outcome ≡ Refused rule at → at ≤ mostRecord
+    by-length true o = let same : 0 ≡ at = cc in omega arith
+    by-length false o = by-record (siteAt f 0) refl o
 
 pub answered : (f : List ℕ) (r : Read) → AllBytes f → r ≡ readRecord f
     → (r ≡ readRecord f) × ((outcomeNumbers (r .outcome) ≡ resultNumbers (onlySite f)) × (r .outcome ≡ Accepted → encode (r .site) ≡ f))

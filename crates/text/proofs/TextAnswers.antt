@@ -6,6 +6,7 @@ use native.Mathlib.Omega.{arith}
 use lib.ListN.{length, take, drop}
 use lib.Seq.{take-append-seam}
 use Rattle.site.specs.ByCheck.{answerIf}
+use Rattle.site.specs.declared.Rule.{Rule}
 use Rattle.site.specs.declared.Rule.the-variants.{BufferShort}
 use Rattle.site.specs.declared.Checked.{Checked}
 use Rattle.site.specs.declared.Checked.the-variants.{Passed, Broken}
@@ -42,6 +43,15 @@ count-is text d r a n b = go (roomRule (length text) (length d)) (sym b ∙ a)
     go : (c : Checked) → Count n ≡ answerIf Count (λ rule. Refused rule 0) c (length text) → n ≡ length text
     go Passed e = cc
     go (Broken k) e = let z : _≡_ {A = ℕ} 0 1 = cc in absurd (omega arith)
+
+-- a refusal has offset 0
+pub refused-at-0 : (text d : List ℕ) {rule : Rule} {at : ℕ} → textAnswer text d ≡ Refused rule at → at ≡ 0
+unfolding answerIf
+refused-at-0 text d {rule} {at} e = go (roomRule (length text) (length d)) e
+  where
+    go : (c : Checked) → answerIf Count (λ rule. Refused rule 0) c (length text) ≡ Refused rule at → at ≡ 0
+    go Passed e = let z : _≡_ {A = ℕ} 0 1 = cc in absurd (omega arith)
+    go (Broken k) e = cc
 
 -- and they are the text
 pub written : (text d e : List ℕ) (r : Listed) → r ≡ textAnswer text d → e ≡ held text d → (n : ℕ) → r ≡ Count n → take n e ≡ text

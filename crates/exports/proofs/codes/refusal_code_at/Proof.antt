@@ -1,6 +1,6 @@
 use native.Mathlib.Omega.{arith}
 use Rattle.exports.specs.Results.{refusalCode}
-use Rattle.exports.proofs.CodeLaws.{number-le}
+use Rattle.exports.proofs.CodeLaws.{number-range}
 use borrow.Author.Needs.{needs}
 use Rattle.exports.proofs.codes.refusal_code_at.Statement.{statement}
 use Rattle.exports.proofs.codes.refusal_code_at.Tie as tie
@@ -9,10 +9,10 @@ rule-number-requires : tie.Need-rule-number-requires
 rule-number-requires c κs = search needs
 
 mul-result : tie.Need-mul-result
-mul-result c = omega (arith, c .rule-number .ensures, number-le (c .before .args .rule))
+mul-result c = omega (arith, c .rule-number .ensures, number-range (c .before .args .rule) .1)
 
 add-result : tie.Need-add-result
-add-result c = omega (arith, c .rule-number .ensures, number-le (c .before .args .rule))
+add-result c = omega (arith, c .rule-number .ensures, number-range (c .before .args .rule) .1)
 
 returns : tie.Need-returns
 unfolding refusalCode

@@ -1,5 +1,6 @@
 use mathlib.Core.Path.{ap, _∙_}
 use Rattle.exports.specs.Results.{listedCode}
+use Rattle.exports.proofs.FileCallLaws.{list-tells}
 use borrow.Author.Needs.{needs}
 use Rattle.exports.proofs.file_calls.forest_list.Statement.{statement}
 use Rattle.exports.proofs.file_calls.forest_list.Tie as tie
@@ -17,7 +18,8 @@ returns : tie.Need-returns
 returns c =
     let l = c .before .before .before .list in
     let e = l .ensures in
-    (c .listed-code .ensures ∙ ap listedCode (e .0), (e .1 .0, rw (e .0) at (e .1 .1 .1)))
+    let t = list-tells _ _ _ _ _ (e .0) (c .listed-code .ensures) (e .1 .1 .1 .1) (e .1 .1 .1 .0) in
+    (c .listed-code .ensures ∙ ap listedCode (e .0), (e .1 .0, (t .0, t .1)))
 
 pub forest-list-spec : {M : Type 1} → statement M
 forest-list-spec = tie.close (tie.spec list-requires listed-code-requires same-length returns)

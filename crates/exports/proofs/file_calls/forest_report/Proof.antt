@@ -1,5 +1,7 @@
 use mathlib.Core.Path.{ap, _∙_}
+use denote.Ref.{now}
 use Rattle.exports.specs.Results.{listedCode}
+use Rattle.exports.proofs.FileCallLaws.{report-tells}
 use borrow.Author.Needs.{needs}
 use Rattle.exports.proofs.file_calls.forest_report.Statement.{statement}
 use Rattle.exports.proofs.file_calls.forest_report.Tie as tie
@@ -16,7 +18,9 @@ same-length c = search needs
 returns : tie.Need-returns
 returns c =
     let e = c .before .before .before .report .ensures in
-    (c .listed-code .ensures ∙ ap listedCode (e .0), (e .1 .0, rw (e .0) at (e .1 .1 .1 .1)))
+    let s = c .before .before .before .before .before .before .before in
+    let t = report-tells _ (now (s .args .out)) _ _ _ (e .0) (c .listed-code .ensures) (e .1 .1 .1 .1) (e .1 .1 .1 .0) in
+    (c .listed-code .ensures ∙ ap listedCode (e .0), (e .1 .0, (t .0, t .1)))
 
 pub forest-report-spec : {M : Type 1} → statement M
 forest-report-spec = tie.close (tie.spec report-requires listed-code-requires same-length returns)
