@@ -16,6 +16,17 @@
  *   46  deposition S, 2         48  deposition N, 2
  *
  * Every content of the 50 bytes is a site value, a bad one is refused by rules 7 to 10; another length than 50 is refused by 7.
+ *
+ * What a call asks:
+ *   - a pointer is valid for its length: its elements may be read, those of `out` written, and nothing else writes them
+ *     until the call returns. A pointer of length 0 is not followed, and may be null;
+ *   - `uint64_t *out` is aligned for uint64_t;
+ *   - input and output do not overlap;
+ *   - the stack given below, in whole KiB. No proof bounds it: it is measured (docs/src/compare/stack) on the library of
+ *     `rt staticlib exports`, which is compiled for x86-64 at -O3. Of the C library memcpy alone is called; where it is
+ *     bound at its first call, that call takes some 3 KiB more.
+ *
+ * Calls keep no state. They may be made from several threads at once if none writes what another reads or writes.
  */
 #ifndef FOREST_H
 #define FOREST_H
@@ -23,22 +34,24 @@
 #include <stddef.h>
 #include <stdint.h>
 
-/* The listing of a file of records. */
+/* The listing of a file of records. Stack: 107 KiB. */
 uint64_t forest_list(const uint8_t *file, size_t file_len, uint8_t *out, size_t out_len);
 
-/* What the program prints for a file: the listing, or the line `refused N at M`. 11 alone is a refusal here. */
+/* What the program prints for a file: the listing, or the line `refused N at M`. 11 alone is a refusal here.
+ * Stack: 107 KiB. */
 uint64_t forest_report(const uint8_t *file, size_t file_len, uint8_t *out, size_t out_len);
 
-/* A single record, read and written again. */
+/* A single record, read and written again. Stack: 1 KiB. */
 uint64_t forest_rewrite(const uint8_t *record, size_t record_len, uint8_t *out, size_t out_len);
 
-/* The check of a site value: 0, or the first rule it breaks. */
+/* The check of a site value: 0, or the first rule it breaks. Stack: 1 KiB. */
 uint64_t forest_check(const uint8_t *site, size_t site_len);
 
-/* Four numbers: CLmaxS, CLminN, CLmaxN, CLnutN. */
+/* Four numbers: CLmaxS, CLminN, CLmaxN, CLnutN. Stack: 1 KiB. */
 uint64_t forest_loads(const uint8_t *site, size_t site_len, uint64_t *out, size_t out_len);
 
-/* Eight numbers: the four loads, region, acid exceedance, nutrient exceedance, mark (0 within, 1 over). */
+/* Eight numbers: the four loads, region, acid exceedance, nutrient exceedance, mark (0 within, 1 over).
+ * Stack: 1 KiB. */
 uint64_t forest_judge(const uint8_t *site, size_t site_len, uint64_t *out, size_t out_len);
 
 #endif

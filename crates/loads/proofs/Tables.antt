@@ -1,5 +1,5 @@
 -- The rules of the constant tables, each by one test that is computed over the whole table.
-use Prim.Native.Nat.{ℕ, zero, suc, _+_, _-_, _≤_, _<_}
+use Prim.Native.Nat.{ℕ, _+_, _-_, _≤_, _<_}
 use mathlib.Core.Bool.{Bool, true, _&&_, _||_}
 use mathlib.Core.Path.{_≡_, refl}
 use mathlib.Core.Logic.{_⊎_, inl, inr, ⊎-elim}
@@ -9,23 +9,12 @@ use borrow.Author.Tests.{leb-true, ne-eqb}
 use lib.Dec.{leb, eqb}
 use lib.ListN.{List·getD-eq-default}
 use Rattle.site.proofs.Tests.{le-or-lt, and-l, and-r}
+use Rattle.site.proofs.BelowLaws.{allBelow, one-below}
 use Rattle.loads.specs.Weathering.{classOf}
 use Rattle.loads.specs.Nitrogen.{denitrified, undenitrifiedOf}
 
 pub lt-or-le : (a b : ℕ) → (a < b) ⊎ (b ≤ a)
 lt-or-le a b = ⊎-elim (λ h. inr h) (λ h. inl h) (le-or-lt b a)
-
--- a test at each number below n, and at one of them
-abbrev pub allBelow : (ℕ → Bool) → ℕ → Bool
-allBelow p zero = true
-allBelow p (suc n) = p n && allBelow p n
-
-pub one-below : (p : ℕ → Bool) (n : ℕ) → allBelow p n ≡ true → (k : ℕ) → k < n → p k ≡ true
-one-below p zero h k l = absurd (omega arith)
-one-below p (suc n) h k l =
-    ⊎-elim (λ (q : k < n). one-below p n (and-r (p n) (allBelow p n) h) k q)
-    (λ (q : n < suc k). let e : k ≡ n = omega arith in rw e (and-l (p n) (allBelow p n) h))
-    (le-or-lt (suc k) n)
 
 -- class k is 20 at most, and 1 at least where the parent material is not organic
 abbrev classTest : ℕ → ℕ → Bool

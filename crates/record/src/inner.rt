@@ -9,10 +9,10 @@ use crate::Outcome;
 use crate::Read;
 use crate::answer::refused_read;
 use crate::bytes::stated_len;
+use crate::due::due_tag;
 use field::blank;
 use field::take_field;
 use site::Checked;
-use site::DUE;
 use site::Rule;
 
 // Rules 5 and 6 at the bytes that are left.
@@ -42,13 +42,12 @@ pub fn read_fields(part: &[u8], base: usize) -> Read
     requires { ⌜ base + length (now part) < 2 ^ 64 ⌝ }
     ensures { λ r. ⌜ r ≡ readOf (fieldsIn siteKind (now (part .entry)) base) ⌝ }
 {
-    let tags = DUE;
     let mut site = blank();
     let mut rest = part;
     let mut at = base;
     let mut k: usize = 0;
     while k < 15 {
-        let tag = tags[k];
+        let tag = due_tag(k);
         match head_rule(rest, tag) {
             Checked::Broken(rule) => {
                 return refused_read(rule, at);

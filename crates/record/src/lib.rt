@@ -1,6 +1,7 @@
 // Site records: reading and writing one.
 mod answer;
 mod bytes;
+mod due;
 mod inner;
 mod outer;
 mod put;

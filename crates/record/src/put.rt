@@ -7,9 +7,9 @@ ghost use Rattle.output.specs.Writing.{Wrote};
 ghost use Rattle.record.specs.FieldParts.{fieldOf};
 ghost use Rattle.field.specs.Field.{value, siteKind};
 ghost use Rattle.record.specs.Fields.{encodeFields};
+use crate::due::due_tag;
 use field::value_of;
 use output::put_bytes;
-use site::DUE;
 use site::Site;
 
 // Tag and length of a field. Each of these functions returns the index after what it has written.
@@ -41,7 +41,7 @@ pub fn put_fields(buf: &mut [u8], at: usize, site: Site) -> usize
     let mut o = at;
     let mut k: usize = 0;
     while k < 15 {
-        let tag = DUE[k];
+        let tag = due_tag(k);
         o = put_field(buf, o, site, tag);
         k = k + 1;
     }

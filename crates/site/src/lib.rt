@@ -35,9 +35,6 @@ pub use stand::stand_rule;
 pub use widen::wide8;
 pub use widen::wide16;
 
-// The tags 01 to 0F, in the order in which fields are due.
-pub const DUE: [u8; 15] = [1, 2, 3, 4, 5, 6, 7, 8, 9, 10, 11, 12, 13, 14, 15];
-
 // An entry of the stand: species, share in percent, yield of a pure stand in kg dry matter per hectare and year.
 pub struct Entry {
     pub species: u8,

@@ -11,11 +11,11 @@ use loads::Loads;
 pub use refusal::put_refusal;
 use site::Rule;
 
-// What a line of the listing shows. Name bytes from `name_len` on are not shown.
+// What a line of the listing shows. Name bytes from `name_len` on are not shown. With the loads first a row is copied in fewer pieces.
 pub struct Row {
+    pub loads: Loads,
     pub name: [u8; 8],
     pub name_len: u8,
-    pub loads: Loads,
     pub verdict: Verdict,
 }
 

@@ -16,18 +16,20 @@ use Rattle.record.proofs.inner.read_fields.Statement.{statement}
 use Rattle.record.proofs.inner.read_fields.Tie as tie
 
 abbrev Inv-loop : tie.InvT-loop
-Inv-loop part base tags site₀ rest₀ at₀ k₀ site rest at k = (k ≤ 15) × (at + length rest ≡ base + length part) × (fieldsIn siteKind part base ≡ walkFields siteKind (drop k due) site rest at)
+Inv-loop part base site₀ rest₀ at₀ k₀ site rest at k = (k ≤ 15) × (at + length rest ≡ base + length part) × (fieldsIn siteKind part base ≡ walkFields siteKind (drop k due) site rest at)
 
 abbrev μ-loop : tie.MeasureT-loop
-μ-loop part base tags site₀ rest₀ at₀ k₀ site rest at k = 15 - k
+μ-loop part base site₀ rest₀ at₀ k₀ site rest at k = 15 - k
 
-head-is : (c : tie.After-enum-told Inv-loop μ-loop) → headRule (getD due (c .before .before .before .before .loop .k) 0) (c .before .before .before .before .loop .rest .now) ≡ Passed
-head-is c = sym (c .before .before .head-rule .ensures) ∙ c .enum-told .given .1
+head-is : (c : tie.After-enum-told Inv-loop μ-loop) → headRule (getD due (c .before .before .before .before .before .loop .k) 0) (c .before .before .before .before .before .loop .rest .now) ≡ Passed
+head-is c =
+    let h = c .before .before in
+    rw (h .before .due-tag .ensures) at (sym (h .head-rule .ensures) ∙ c .enum-told .given .1)
 
-ok : (c : tie.After-enum-told Inv-loop μ-loop) → HeadOk (getD due (c .before .before .before .before .loop .k) 0) (c .before .before .before .before .loop .rest .now)
+ok : (c : tie.After-enum-told Inv-loop μ-loop) → HeadOk (getD due (c .before .before .before .before .before .loop .k) 0) (c .before .before .before .before .before .loop .rest .now)
 ok c = head-passed _ _ (head-is c)
 
-end-is : (c : tie.After-stated-len Inv-loop μ-loop) → 3 + c .stated-len .result ≡ 3 + statedLen (c .before .before .before .before .before .loop .rest .now)
+end-is : (c : tie.After-stated-len Inv-loop μ-loop) → 3 + c .stated-len .result ≡ 3 + statedLen (c .before .before .before .before .before .before .loop .rest .now)
 end-is c = omega arith
 
 blank-requires : tie.Need-blank-requires Inv-loop μ-loop
@@ -36,8 +38,8 @@ blank-requires c κs = search needs
 loop-holds : tie.Need-loop-holds Inv-loop μ-loop
 loop-holds c = (search needs, refl, rw (c .blank .ensures))
 
-array-read-tag : tie.Need-array-read-tag Inv-loop μ-loop
-array-read-tag c = search needs
+due-tag-requires : tie.Need-due-tag-requires Inv-loop μ-loop
+due-tag-requires c κs = search needs
 
 head-rule-requires : tie.Need-head-rule-requires Inv-loop μ-loop
 head-rule-requires c κs = search needs
@@ -51,7 +53,9 @@ refused-read-requires c κs = search needs
 returns : tie.Need-returns Inv-loop μ-loop
 returns c =
     let h = c .before .before .before .before in
-    c .refused-read .ensures ∙ sym (read-fault (h .before .before .loop .inv .2 ∙ walk-head siteKind due _ (h .before .loop-test .taken) _ _ _ _ (sym (h .head-rule .ensures) ∙ c .before .before .rule .given .1)))
+    let broken = rw (h .before .due-tag .ensures) at (sym (h .head-rule .ensures) ∙ c .before .before .rule .given .1) in
+    let i = h .before .before in
+    c .refused-read .ensures ∙ sym (read-fault (i .before .loop .inv .2 ∙ walk-head siteKind due _ (i .loop-test .taken) _ _ _ _ broken))
 
 enum-told : tie.Need-enum-told Inv-loop μ-loop
 enum-told c = search needs
@@ -84,10 +88,12 @@ returns-2 : tie.Need-returns-2 Inv-loop μ-loop
 returns-2 c =
     let f = c .before .before .before .before in
     let e = f .before .before .before in
-    let h = e .before .before in
+    let t = e .before .before .before in
+    let i = t .before in
+    let x = rw (t .due-tag .ensures) at (f .take-field .ensures .0) in
     c .refused-read2 .ensures
-    ∙ sym (read-fault (h .before .before .loop .inv .2
-    ∙ site-value due _ (h .before .loop-test .taken) _ _ _ (head-is e) _ _ (end-is (f .before .before)) (f .take-field .ensures .0) _ (c .before .before .checked .given .1)))
+    ∙ sym (read-fault (i .before .loop .inv .2
+    ∙ site-value due _ (i .loop-test .taken) _ _ _ (head-is e) _ _ (end-is (f .before .before)) x _ (c .before .before .checked .given .1)))
 
 enum-told-2 : tie.Need-enum-told-2 Inv-loop μ-loop
 enum-told-2 c = search needs
@@ -114,11 +120,13 @@ loop-again : tie.Need-loop-again Inv-loop μ-loop
 loop-again c =
     let f = c .before .before .before .before in
     let e = f .before .before .before in
-    let h = e .before .before in (
+    let t = e .before .before .before in
+    let i = t .before in
+    let x = rw (t .due-tag .ensures) at (f .take-field .ensures .0) in (
       search needs,
       simp (length-take, length-drop) (omega (arith, ok e .inside)),
-      h .before .before .loop .inv .2
-          ∙ site-next due _ (h .before .loop-test .taken) _ _ _ (head-is e) _ _ (end-is (f .before .before)) (f .take-field .ensures .0) (c .before .before .enum-told2 .given .1),
+      i .before .loop .inv .2
+          ∙ site-next due _ (i .loop-test .taken) _ _ _ (head-is e) _ _ (end-is (f .before .before)) x (c .before .before .enum-told2 .given .1),
     )
 
 returns-3 : tie.Need-returns-3 Inv-loop μ-loop
@@ -139,7 +147,7 @@ read-fields-spec =
     μ-loop
     blank-requires
     loop-holds
-    array-read-tag
+    due-tag-requires
     head-rule-requires
     enum-known-rule
     refused-read-requires

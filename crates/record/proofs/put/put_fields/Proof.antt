@@ -24,16 +24,18 @@ loop-holds : tie.Need-loop-holds Inv-loop μ-loop
 unfolding each
 loop-holds c = (search needs, refl, nothing _ _)
 
-array-read-tag : tie.Need-array-read-tag Inv-loop μ-loop
-array-read-tag c = search needs
+due-tag-requires : tie.Need-due-tag-requires Inv-loop μ-loop
+due-tag-requires c κs = search needs
 
 put-field-requires : tie.Need-put-field-requires Inv-loop μ-loop
 put-field-requires c κs =
-    let r = c .before in
+    let t = c .before in
+    let r = t .before in
     let l = r .before in
     let s = l .before .before in
-    room (fieldAt siteKind (s .args .site) (getD due (l .loop .k) 0)) (l .loop .inv .2)
-    (each-fits (fieldAt siteKind (s .args .site)) (s .args .at) due (l .loop .k) 0 (r .loop-test .taken) (rw (← fields-each siteKind (s .args .site) due) (s .pre)))
+    rw (t .due-tag .ensures)
+    (room (fieldAt siteKind (s .args .site) (getD due (l .loop .k) 0)) (l .loop .inv .2)
+    (each-fits (fieldAt siteKind (s .args .site)) (s .args .at) due (l .loop .k) 0 (r .loop-test .taken) (rw (← fields-each siteKind (s .args .site) due) (s .pre))))
 
 add-k : tie.Need-add-k Inv-loop μ-loop
 add-k c = search needs
@@ -44,10 +46,11 @@ loop-less c = search needs
 loop-again : tie.Need-loop-again Inv-loop μ-loop
 loop-again c =
     let x = c .before .before in
-    let r = x .before .before in
+    let t = x .before .before in
+    let r = t .before in
     let l = r .before in
     let s = l .before .before in
-    let w = then (l .loop .inv .2) (x .put-field .ensures) in
+    let w = then (l .loop .inv .2) (rw (t .due-tag .ensures) at (x .put-field .ensures)) in
     (search needs, kept w, rw (each-more (fieldAt siteKind (s .args .site)) due (l .loop .k) 0 (r .loop-test .taken)) w)
 
 same-length : tie.Need-same-length Inv-loop μ-loop
@@ -66,7 +69,7 @@ put-fields-spec =
     Inv-loop
     μ-loop
     loop-holds
-    array-read-tag
+    due-tag-requires
     put-field-requires
     add-k
     loop-less
