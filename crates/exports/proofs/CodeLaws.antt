@@ -6,7 +6,7 @@ use native.Mathlib.Omega.{arith}
 use native.Mathlib.Nat.{mul-le-mul-right, mod-eq-of-lt}
 use lib.ListN.{length, getD}
 use Rattle.field.specs.Field.{tabulate}
-use Rattle.field.proofs.TableLaws.{table-getD}
+use Rattle.field.proofs.TabulateLaws.{tabulate-getD}
 use Rattle.site.specs.Refusal.{ruleNumber}
 use Rattle.site.specs.ByCheck.{answerIf}
 use Rattle.site.specs.declared.Rule.{Rule}
@@ -53,4 +53,4 @@ code-is (Broken r) n = refl
 -- an array of four numbers
 pub four : (l : List ℕ) → length l ≡ 4 → getD l 0 0 ∷ getD l 1 0 ∷ getD l 2 0 ∷ getD l 3 0 ∷ [] ≡ l
 unfolding tabulate
-four l e = rw e at (table-getD l 0)
+four l e = rw e at (tabulate-getD l 0)

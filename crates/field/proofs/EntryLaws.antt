@@ -11,7 +11,7 @@ use Rattle.site.specs.Bounds.{noEntry}
 use Rattle.site.specs.Bytes.{wordOf}
 use Rattle.field.specs.Field.{entriesBytes, tabulate, entryAt}
 use Rattle.field.specs.Clean.{AllBytes}
-use Rattle.field.proofs.TableLaws.{table-cong}
+use Rattle.field.proofs.TabulateLaws.{tabulate-cong}
 
 pub word-back : (y : ℕ) → wordOf (y / 256) (y % 256) ≡ y
 word-back y = omega arith
@@ -51,7 +51,7 @@ entry-back (e ∷ es) (suc i) =
     entry-skip (e .species) (e .share) (e .«yield_kg» / 256) (e .«yield_kg» % 256) (entriesBytes es) i ∙ entry-back es i
 
 pub stand-back : (n : ℕ) (es : List Entry) → tabulate n (λ i. entryAt (entriesBytes es) (4 * i)) ≡ tabulate n (λ i. getD es i noEntry)
-stand-back n es = table-cong n _ _ (entry-back es)
+stand-back n es = tabulate-cong n _ _ (entry-back es)
 
 pub no-length : (bs : List ℕ) → length bs ≡ 0 → bs ≡ []
 no-length [] e = refl
@@ -69,7 +69,7 @@ entries-back (suc n) (suc m) (p ∷ q ∷ r ∷ []) h l b = absurd (omega arith)
 entries-back (suc n) (suc m) (p ∷ q ∷ r ∷ t ∷ v) h l b =
     let hi : (256 * r + t) / 256 ≡ r = omega (arith, b 3) in
     let lo : (256 * r + t) % 256 ≡ t = omega (arith, b 3) in
-    rw (hi, lo, table-cong m _ _ (entry-skip p q r t v), entries-back n m v (le-of-suc-le-suc h) (omega arith) (λ i. b (suc (suc (suc (suc i))))))
+    rw (hi, lo, tabulate-cong m _ _ (entry-skip p q r t v), entries-back n m v (le-of-suc-le-suc h) (omega arith) (λ i. b (suc (suc (suc (suc i))))))
 
 byte-past : (v : List ℕ) (i : ℕ) → length v ≤ i → getD v i 0 ≡ 0
 byte-past v i h = List·getD-eq-default v 0 {n = i} h

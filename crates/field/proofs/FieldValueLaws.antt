@@ -19,7 +19,7 @@ use Rattle.site.proofs.LengthLaws.{count-parts}
 use Rattle.site.proofs.Tests.{le-or-lt}
 use Rattle.field.specs.Field.{values, value, entriesBytes, tabulate}
 use Rattle.field.specs.Clean.{Sized}
-use Rattle.field.proofs.TableLaws.{table-getD}
+use Rattle.field.proofs.TabulateLaws.{tabulate-getD}
 use Rattle.field.proofs.EntryLaws.{length-entries, entries-take}
 
 -- ---- what the writer makes of the arrays
@@ -41,13 +41,13 @@ nameBytes l = tabulate 8 (λ i. getD l i 0) ++ replicate 8 0
 pub name-value : (l : List ℕ) (n : ℕ) → length l ≡ 8 → n ≤ 8 → take n (nameBytes l) ≡ take n l
 unfolding nameBytes
 name-value l n e h =
-    let q : tabulate 8 (λ i. getD l i 0) ≡ l = rw e at (table-getD l 0) in
+    let q : tabulate 8 (λ i. getD l i 0) ≡ l = rw e at (tabulate-getD l 0) in
     rw q (take-append-le n l (replicate 8 0) (omega arith))
 
 pub stand-value : (l : List Entry) (n : ℕ) → length l ≡ 4 → take (4 * n) (entriesBytes (tabulate 4 (λ i. getD l i noEntry))) ≡ entriesBytes (take n l)
 unfolding tabulate
 stand-value l n e =
-    let q : tabulate 4 (λ i. getD l i noEntry) ≡ l = rw e at (table-getD l noEntry) in
+    let q : tabulate 4 (λ i. getD l i noEntry) ≡ l = rw e at (tabulate-getD l noEntry) in
     rw q (entries-take n l)
 
 -- another tag has no bytes

@@ -13,7 +13,7 @@ use Rattle.site.specs.Bytes.{wordAt}
 use Rattle.field.specs.Clean.{AllBytes}
 use Rattle.field.specs.Field.{wordBytes, tabulate}
 use Rattle.field.specs.Kind.{Kind, fieldRule}
-use Rattle.field.proofs.TableLaws.{table-getD}
+use Rattle.field.proofs.TabulateLaws.{tabulate-getD}
 use Rattle.field.proofs.EntryLaws.{word-back}
 
 -- ---- what was stored is written
@@ -21,11 +21,11 @@ use Rattle.field.proofs.EntryLaws.{word-back}
 module _ (v : List ℕ) where
   byte-kept : length v ≡ 1 → getD v 0 0 ∷ [] ≡ v
   unfolding tabulate
-  byte-kept l = rw l at (table-getD v 0)
+  byte-kept l = rw l at (tabulate-getD v 0)
 
   bytes-kept : length v ≡ 2 → getD v 0 0 ∷ getD v 1 0 ∷ [] ≡ v
   unfolding tabulate
-  bytes-kept l = rw l at (table-getD v 0)
+  bytes-kept l = rw l at (tabulate-getD v 0)
 
   word-hi : (i : ℕ) → AllBytes v → wordAt v i / 256 ≡ getD v i 0
   word-hi i b = omega (arith, b (i + 1))
@@ -38,7 +38,7 @@ module _ (v : List ℕ) where
 
   words-kept : length v ≡ 4 → AllBytes v → wordBytes (wordAt v 0) ++ wordBytes (wordAt v 2) ≡ v
   unfolding tabulate
-  words-kept l b = rw (word-hi 0 b, word-lo 0 b, word-hi 2 b, word-lo 2 b) (rw l at (table-getD v 0))
+  words-kept l b = rw (word-hi 0 b, word-lo 0 b, word-hi 2 b, word-lo 2 b) (rw l at (tabulate-getD v 0))
 
 -- ---- the laws by tag
 

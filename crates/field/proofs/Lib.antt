@@ -1,7 +1,8 @@
 pub mod All
 pub mod TakenLaws
-pub mod TableLaws
+pub mod TabulateLaws
 pub mod EntryLaws
 pub mod FieldValueLaws
 pub mod KindLaws
 pub mod TagLaws
+pub mod SameLaws

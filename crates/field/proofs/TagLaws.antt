@@ -18,7 +18,7 @@ use Rattle.site.specs.Values.{due, itemWidths, mostItems, lengthPermitted, item
 use Rattle.site.proofs.LengthLaws.{permitted-parts, parts-permitted, parts-counted, one-item}
 use Rattle.field.specs.Clean.{Sized, AllBytes}
 use Rattle.field.proofs.All.{All, none, _▸_}
-use Rattle.field.proofs.TableLaws.{take-table, length-table, table-clean}
+use Rattle.field.proofs.TabulateLaws.{take-tabulate, length-tabulate, tabulate-clean}
 use Rattle.field.proofs.EntryLaws.{stand-back, entries-back, entry-past}
 use Rattle.field.proofs.KindLaws.{Made, Kept, field-passed, OneLength, OneItem, byte-item, word-item, pair-item, words-item}
 use Rattle.field.proofs.FieldValueLaws.{name-counts, name-long, stand-counts, stand-long, bytes-long}
@@ -27,7 +27,7 @@ use Rattle.field.proofs.FieldValueLaws.{name-counts, name-long, stand-c
 
 module _ (v : List ℕ) where
   name-kept : lengthPermitted 1 (length v) ≡ true → take (length v) (tabulate 8 (λ i. getD v i 0)) ≡ v
-  name-kept p = let q = permitted-parts 1 (length v) p in take-table 8 v 0 (omega arith)
+  name-kept p = let q = permitted-parts 1 (length v) p in take-tabulate 8 v 0 (omega arith)
 
   stand-kept : lengthPermitted 7 (length v) ≡ true → AllBytes v → entriesBytes (take (length v / 4) (tabulate 4 (λ i. entryAt v (4 * i)))) ≡ v
   stand-kept p b = let q = permitted-parts 7 (length v) p in entries-back (length v / 4) 4 v (omega arith) (omega arith) b
@@ -78,25 +78,25 @@ pub quarter : (n : ℕ) → 4 * n / 4 ≡ n
 quarter n = omega arith
 
 name-clean : (v : List ℕ) → take 8 (take (length v) (tabulate 8 (λ i. getD v i 0)) ++ replicate 8 0) ≡ tabulate 8 (λ i. getD v i 0)
-name-clean v = table-clean 8 (length v) 8 (λ i. getD v i 0) 0 (omega arith) (λ i h. List·getD-eq-default v 0 {n = i} h)
+name-clean v = tabulate-clean 8 (length v) 8 (λ i. getD v i 0) 0 (omega arith) (λ i h. List·getD-eq-default v 0 {n = i} h)
 
 stand-clean : (v : List ℕ) → lengthPermitted 7 (length v) ≡ true
     → take 4 (take (length v / 4) (tabulate 4 (λ i. entryAt v (4 * i))) ++ replicate 4 noEntry) ≡ tabulate 4 (λ i. entryAt v (4 * i))
 stand-clean v p =
     let q = permitted-parts 7 (length v) p in
-    table-clean 4 (length v / 4) 4 (λ i. entryAt v (4 * i)) noEntry (omega arith) (λ i h. entry-past v (4 * i) (omega arith))
+    tabulate-clean 4 (length v / 4) 4 (λ i. entryAt v (4 * i)) noEntry (omega arith) (λ i h. entry-past v (4 * i) (omega arith))
 
 name-own : (v : List ℕ) (x : Site) → lengthPermitted 1 (length v) ≡ true → (countRule 1 (store 1 v x) ≡ Passed) × Tidy 1 (store 1 v x)
 unfolding store itemCount Tidy
 name-own v x p =
     let q = permitted-parts 1 (length v) p in
-    (parts-counted 1 (store 1 v x) (omega arith) (omega arith), record { sized = length-table 8 _; clean = name-clean v })
+    (parts-counted 1 (store 1 v x) (omega arith) (omega arith), record { sized = length-tabulate 8 _; clean = name-clean v })
 
 stand-own : (v : List ℕ) (x : Site) → lengthPermitted 7 (length v) ≡ true → (countRule 7 (store 7 v x) ≡ Passed) × Tidy 7 (store 7 v x)
 unfolding store itemCount Tidy
 stand-own v x p =
     let q = permitted-parts 7 (length v) p in
-    (parts-counted 7 (store 7 v x) (omega arith) (omega arith), record { sized = length-table 4 _; clean = stand-clean v p })
+    (parts-counted 7 (store 7 v x) (omega arith) (omega arith), record { sized = length-tabulate 4 _; clean = stand-clean v p })
 
 name-other : (u : ℕ) (v : List ℕ) (x : Site) → (u ≡ 1 → ⊥) → (countRule 1 x ≡ Passed) × Tidy 1 x → (countRule 1 (store u v x) ≡ Passed) × Tidy 1 (store u v x)
 unfolding store countRule itemCount Tidy
@@ -128,7 +128,7 @@ name-again s z c e x =
     let l = name-long s z c in
     let k = name-counts s z c in
     let n8 : length name ≤ 8 = omega arith in
-    rw (parts-permitted 1 (length name) (omega arith) (omega arith) n8 (omega arith), take-table 8 name 0 n8) e
+    rw (parts-permitted 1 (length name) (omega arith) (omega arith) n8 (omega arith), take-tabulate 8 name 0 n8) e
 
 stand-again : (s : Site) → Sized s → countRule 7 s ≡ Passed → valueRule 7 s ≡ Passed → (x : Site) → fieldRule siteKind 7 (value 7 s) x ≡ Passed
 unfolding value valueRule store fieldRule
@@ -138,7 +138,7 @@ stand-again s z c e x =
     let l = stand-long s z c in
     let k = stand-counts s z c in
     let n4 : length es ≤ 4 = omega arith in
-    let t : take (s .entries) (tabulate 4 (λ i. getD es i noEntry)) ≡ es = rw l at (take-table 4 es noEntry n4) in
+    let t : take (s .entries) (tabulate 4 (λ i. getD es i noEntry)) ≡ es = rw l at (take-tabulate 4 es noEntry n4) in
     rw (b, parts-permitted 7 (4 * s .entries) (omega arith) (omega arith) (omega arith) (omega arith), quarter, stand-back 4 es, t) e
 
 name-tag : TagLaws 1

@@ -30,6 +30,26 @@ clean s = record {
   nitrogen = s .nitrogen;
 }
 
+-- s and t are the same site: all values are equal, names up to their lengths and stands up to their counts; what stands past them is no part of a site
+pub record SameSite (s t : Site) : Type 0 where
+  pub name : take (s .«name_len») (s .name) ≡ take (t .«name_len») (t .name)
+  pub parent : s .parent ≡ t .parent
+  pub clay : s .clay ≡ t .clay
+  pub sand : s .sand ≡ t .sand
+  pub depth : s .depth ≡ t .depth
+  pub drainage : s .drainage ≡ t .drainage
+  pub percolation : s .percolation ≡ t .percolation
+  pub stand : take (s .entries) (s .stand) ≡ take (t .entries) (t .stand)
+  pub immobilisation : s .immobilisation ≡ t .immobilisation
+  pub available : s .available ≡ t .available
+  pub deposition : s .«base_deposition» ≡ t .«base_deposition»
+  pub ratio : s .ratio ≡ t .ratio
+  pub gibbsite : s .gibbsite ≡ t .gibbsite
+  pub ceiling : s .ceiling ≡ t .ceiling
+  pub leachate : s .leachate ≡ t .leachate
+  pub sulphur : s .sulphur ≡ t .sulphur
+  pub nitrogen : s .nitrogen ≡ t .nitrogen
+
 -- the lengths of a site's arrays: those of their types, so every site of the code has them
 pub record Sized (s : Site) : Type 0 where
   pub name : length (s .name) ≡ 8

@@ -79,7 +79,7 @@ fn store_stand(site: Site, value: &[u8]) -> Taken
     Taken { checked, site: s }
 }
 
-// Tags 02 to 06: the ground.
+// Tags 02 to 06: parent material, texture, root depth, drainage, percolation.
 fn store_ground(site: Site, tag: u8, value: &[u8]) -> Taken
     requires { ⌜ (2 ≤ tag) × (tag ≤ 6) ⌝ }
     ensures { λ r. ⌜ Stored tag (now (value .entry)) site r ⌝ }
@@ -126,7 +126,7 @@ fn store_ground(site: Site, tag: u8, value: &[u8]) -> Taken
     }
 }
 
-// Tags 08 to 0F: limits and deposition.
+// Tags 08 to 0F: from immobilisation to the pair.
 fn store_limits(site: Site, tag: u8, value: &[u8]) -> Taken
     requires { ⌜ (8 ≤ tag) × (tag ≤ 15) ⌝ }
     ensures { λ r. ⌜ Stored tag (now (value .entry)) site r ⌝ }

@@ -1,4 +1,4 @@
-// The walk over a file: each record is read, loaded and judged once.
+// The walk over a file: each record is read and judged once.
 ghost use mathlib.Core.Path.{_≡_};
 ghost use Rattle.record.specs.Outer.{recordAt, outcomeNumbers};
 ghost use Rattle.record.specs.File.{contents};

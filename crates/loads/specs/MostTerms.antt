@@ -1,4 +1,4 @@
--- The greatest values at a site that passes the check, each written once: what the terms can reach, and so the loads and the sums behind them.
+-- Upper bounds of the terms at a site that passes the check, and of the loads and sums made of them, each written once.
 use Prim.Native.Nat.{ℕ, _+_, _*_, _-_, _/_}
 use Rattle.site.specs.Ranges.{depthRange, percolationRange, mostEntries, shareRange, yieldRange, immobilisationRange, availableRange, baseDepositionRange, ratioRange, ceilingRange, leachateRange}
 

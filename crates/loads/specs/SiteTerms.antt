@@ -1,4 +1,4 @@
--- How a site gives each term: the one place where the loads and the balances meet a site.
+-- How a site gives each term.
 use Rattle.site.specs.declared.Site.{Site}
 use Rattle.loads.specs.Terms.{Terms}
 use Rattle.loads.specs.Uptake.{nitrogenUptake}

@@ -1,4 +1,4 @@
--- The terms of document 01 at a site, under its letters: all that the loads and the balances know of a site.
+-- The terms of document 01 at a site, under its letters. Loads and balances are defined on these alone.
 use Prim.Native.Nat.{ℕ, _≤_}
 use Rattle.site.specs.Ranges.{percolationRange, ceilingRange}
 use Rattle.loads.specs.MostTerms.{mostSupply, mostA, mostL}

@@ -19,7 +19,7 @@ fn denitrified_in(drainage: usize) -> u64
     wide16(DENITRIFIED[drainage])
 }
 
-// e, per mille; past the classes nothing is denitrified.
+// e, per mille. No site that passes has a drainage past the classes; there the definition takes d as 0.
 fn undenitrified_of(drainage: u8) -> u64
     ensures { λ r. ⌜ r ≡ undenitrifiedOf drainage ⌝ }
 {

@@ -16,7 +16,7 @@ use Rattle.record.specs.Result.{good}
 use Rattle.record.specs.Fields.{fieldsIn, encodeFields}
 use Rattle.field.specs.Clean.{clean, Sized, AllBytes}
 use Rattle.field.proofs.All.{All, none, _▸_, map-all, zip-all, all-at}
-use Rattle.field.proofs.TableLaws.{table-pad}
+use Rattle.field.proofs.TabulateLaws.{tabulate-pad}
 use Rattle.field.proofs.EntryLaws.{word-back, stand-back}
 use Rattle.field.proofs.FieldValueLaws.{name-long, bytes-long}
 use Rattle.field.proofs.TagLaws.{Tidy, AsRead, TagLaws, tags, quarter}
@@ -70,10 +70,10 @@ module _ (s : Site) (z : Sized s) (e : siteRule s ≡ Passed) where
   stored-is-clean =
       let es = take (s .entries) (s .stand) in
       rw (
-        table-pad 8 8 (take (s .«name_len») (s .name)) 0 (omega arith),
+        tabulate-pad 8 8 (take (s .«name_len») (s .name)) 0 (omega arith),
         name-long s z (all-at passed 0 0 (omega arith) .0),
         stand-back 4 es,
-        table-pad 4 4 es noEntry (omega arith),
+        tabulate-pad 4 4 es noEntry (omega arith),
         bytes-long s z (all-at passed 6 0 (omega arith) .0),
         quarter,
       )
