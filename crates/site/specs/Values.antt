@@ -89,14 +89,13 @@ unfoldable pub sharesOf : List Entry → ℕ
 sharesOf [] = 0
 sharesOf (e ∷ es) = e .share + sharesOf es
 
+-- rules 9 and 10 of a stand whose species rise or not and whose shares have the given sum
+abbrev pub orderRule : Bool → ℕ → Checked
+orderRule rising shares = pick rising (pick (eqb shares 100) Passed (Broken SharesNotWhole)) (Broken NotRising)
+
 -- rule 8 over all entries, then 9, then 10
 unfoldable pub standRule : List Entry → Checked
-standRule es =
-    pick (allOf entryRanged es)
-    (pick (risingFrom 0 es)
-    (pick (eqb (sharesOf es) 100) Passed (Broken SharesNotWhole))
-    (Broken NotRising))
-    (Broken OutOfRange)
+standRule es = pick (allOf entryRanged es) (orderRule (risingFrom 0 es) (sharesOf es)) (Broken OutOfRange)
 
 -- rules 8, 9 and 10 of the field with tag t
 unfoldable pub valueRule : ℕ → Site → Checked
