@@ -5,4 +5,5 @@ pub mod PartLaws
 pub mod StandLaws
 pub mod LengthLaws
 pub mod FieldLaws
+pub mod NumberLaws
 pub mod BoundsLaw

@@ -97,11 +97,10 @@ orderRule rising shares = pick rising (pick (eqb shares 100) Passed (Broken Shar
 unfoldable pub standRule : List Entry → Checked
 standRule es = pick (allOf entryRanged es) (orderRule (risingFrom 0 es) (sharesOf es)) (Broken OutOfRange)
 
--- rules 8, 9 and 10 of the field with tag t
-unfoldable pub valueRule : ℕ → Site → Checked
-valueRule t s =
-    getD
-    (Passed
+-- rules 8, 9 and 10 of each field, by tag; the deposition has none
+abbrev pub valueRules : Site → List Checked
+valueRules s =
+    Passed
     ∷ ranged (allOf nameByte (take (s .«name_len») (s .name)))
     ∷ between parentRange (s .parent)
     ∷ ranged (leb ((s .clay) + s .sand) mostTexture)
@@ -116,5 +115,7 @@ valueRule t s =
     ∷ between gibbsiteRange (s .gibbsite)
     ∷ between ceilingRange (s .ceiling)
     ∷ between leachateRange (s .leachate)
-    ∷ [])
-    t Passed
+    ∷ []
+
+unfoldable pub valueRule : ℕ → Site → Checked
+valueRule t s = getD (valueRules s) t Passed

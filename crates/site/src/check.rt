@@ -3,7 +3,7 @@ ghost use mathlib.Core.List.{List, _∷_};
 ghost use mathlib.Core.Path.{_≡_};
 ghost use Prim.Native.Nat.{ℕ, _+_, _≤_};
 ghost use Rattle.site.specs.Check.{fieldsRule, siteRule};
-ghost use Rattle.site.specs.Refusal.{checkedNumber};
+ghost use Rattle.site.specs.Refusal.{checkedNumber, Numbered};
 use crate::Checked;
 use crate::Site;
 use crate::length::count_rule;
@@ -36,7 +36,7 @@ fn five_fields(site: Site, t: u8, later: Checked) -> Checked
 
 pub fn check_site(site: Site) -> Checked
     ensures answer { λ r. ⌜ r ≡ siteRule site ⌝ }
-    ensures number { λ r. ⌜ checkedNumber r ≡ checkedNumber (siteRule site) ⌝ }
+    ensures number { λ r. ⌜ Numbered (siteRule site) (checkedNumber r) ⌝ }
 {
     let last = five_fields(site, 11, Checked::Passed);
     let middle = five_fields(site, 6, last);

@@ -36,13 +36,13 @@ returns-2 : tie.Need-returns-2
 unfolding fieldsRule andThen
 returns-2 c =
     let r = c .before .before .before in
-    λ ts e. rw (counted (r .before), sym (r .field-rule .ensures .0) ∙ c .before .rule2 .given .1)
+    λ ts e. rw (counted (r .before), sym (r .field-rule .ensures) ∙ c .before .rule2 .given .1)
 
 returns-3 : tie.Need-returns-3
 unfolding fieldsRule andThen
 returns-3 c =
     let r = c .before .before in
-    λ ts e. rw (counted (r .before), sym (r .field-rule .ensures .0) ∙ c .enum-told2 .given .1) e
+    λ ts e. rw (counted (r .before), sym (r .field-rule .ensures) ∙ c .enum-told2 .given .1) e
 
 pub check-field-spec : {M : Type 1} → statement M
 check-field-spec =

@@ -4,7 +4,7 @@ use lib.ListN.{drop}
 use borrow.Author.Needs.{needs}
 use Rattle.site.specs.Check.{fieldsRule, siteRule}
 use Rattle.site.specs.Values.{due}
-use Rattle.site.proofs.Passing.{with-number}
+use Rattle.site.proofs.NumberLaws.{numbered, known-site}
 use Rattle.site.proofs.check.check_site.Statement.{statement}
 use Rattle.site.proofs.check.check_site.Tie as tie
 
@@ -20,9 +20,10 @@ five-fields-requires-3 c κs = search needs
 returns : tie.Need-returns
 unfolding fieldsRule siteRule
 returns c =
-    with-number _ _
-    (c .five-fields3 .ensures (drop 5 due)
-    (c .before .five-fields2 .ensures (drop 10 due) (c .before .before .five-fields .ensures [] refl)))
+    let last = c .before .before .five-fields .ensures [] refl in
+    let middle = c .before .five-fields2 .ensures (drop 10 due) last in
+    let all = c .five-fields3 .ensures (drop 5 due) middle in
+    (all, numbered _ _ all (known-site _))
 
 pub check-site-spec : {M : Type 1} → statement M
 check-site-spec =
