@@ -5,3 +5,4 @@ pub mod Values
 pub mod Check
 pub mod Bytes
 pub mod Bounds
+pub mod ExampleSite
