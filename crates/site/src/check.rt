@@ -3,23 +3,29 @@ ghost use mathlib.Core.List.{List, _∷_};
 ghost use mathlib.Core.Path.{_≡_};
 ghost use Prim.Native.Nat.{ℕ, _+_, _≤_};
 ghost use Rattle.site.specs.Check.{fieldsRule, siteRule};
-ghost use Rattle.site.specs.Refusal.{checkedNumber, Numbered};
+ghost use Rattle.site.specs.Refusal.{andThen, checkedNumber, Numbered};
 use crate::Checked;
 use crate::Site;
 use crate::length::count_rule;
 use crate::value::field_rule;
 
+// The first that is broken.
+fn both(a: Checked, b: Checked) -> Checked
+    ensures { λ r. ⌜ r ≡ andThen a b ⌝ }
+{
+    match a {
+        Checked::Broken(rule) => Checked::Broken(rule),
+        Checked::Passed => b,
+    }
+}
+
 // A field, then what the check of the later ones says.
 fn check_field(site: Site, tag: u8, later: Checked) -> Checked
     ensures { λ r. ⌜ ((ts : List ℕ) → later ≡ fieldsRule ts site → r ≡ fieldsRule (tag ∷ ts) site) ⌝ }
 {
-    match count_rule(site, tag) {
-        Checked::Broken(rule) => Checked::Broken(rule),
-        Checked::Passed => match field_rule(site, tag) {
-            Checked::Broken(rule) => Checked::Broken(rule),
-            Checked::Passed => later,
-        },
-    }
+    let count = count_rule(site, tag);
+    let value = field_rule(site, tag);
+    both(both(count, value), later)
 }
 
 // Five fields from tag t on, then the later ones. With no loop each tag is known where it is checked, and its rule is a few tests.
