@@ -14,7 +14,7 @@ use Rattle.site.specs.Choice.{pick}
 use Rattle.field.specs.Field.{tabulate, entryAt, store, entriesBytes, value, siteKind}
 use Rattle.field.specs.Kind.{fieldRule}
 use Rattle.site.specs.Ranges.{parentRange, depthRange, drainageRange, percolationRange, immobilisationRange, availableRange, baseDepositionRange, ratioRange, gibbsiteRange, ceilingRange, leachateRange}
-use Rattle.site.specs.Values.{due, itemWidths, mostItems, lengthPermitted, itemCount, countRule, valueRule, ranged, between}
+use Rattle.site.specs.Values.{due, itemsOf, lengthPermitted, itemCount, countRule, valueRule, ranged, between}
 use Rattle.site.proofs.LengthLaws.{permitted-parts, parts-permitted, parts-counted, one-item}
 use Rattle.field.specs.Clean.{Sized, AllBytes}
 use Rattle.field.proofs.All.{All, none, _▸_}
@@ -68,8 +68,8 @@ one-tag t one plain = record {
   again = λ s z c e. one .again s e;
 }
 
--- by the tables of lengths: one item of w bytes
-one-length : (t w : ℕ) → getD mostItems t 0 ≡ 1 → getD itemWidths t 1 ≡ w → lengthPermitted t w ≡ true → OneLength siteKind t w
+-- by the table of lengths: one item of w bytes
+one-length : (t w : ℕ) → itemsOf t .most ≡ 1 → itemsOf t .width ≡ w → lengthPermitted t w ≡ true → OneLength siteKind t w
 one-length t w one wide ok = (λ n p. one-item t n one p ∙ wide, ok)
 
 -- ---- the name and the stand
@@ -128,7 +128,7 @@ name-again s z c e x =
     let l = name-long s z c in
     let k = name-counts s z c in
     let n8 : length name ≤ 8 = omega arith in
-    rw (parts-permitted 1 (length name) (omega arith) (omega arith) n8 (omega arith), take-tabulate 8 name 0 n8) e
+    rw (parts-permitted 1 (length name) (omega arith) n8 (omega arith), take-tabulate 8 name 0 n8) e
 
 stand-again : (s : Site) → Sized s → countRule 7 s ≡ Passed → valueRule 7 s ≡ Passed → (x : Site) → fieldRule siteKind 7 (value 7 s) x ≡ Passed
 unfolding value valueRule store fieldRule
@@ -139,7 +139,7 @@ stand-again s z c e x =
     let k = stand-counts s z c in
     let n4 : length es ≤ 4 = omega arith in
     let t : take (s .entries) (tabulate 4 (λ i. getD es i noEntry)) ≡ es = rw l at (take-tabulate 4 es noEntry n4) in
-    rw (b, parts-permitted 7 (4 * s .entries) (omega arith) (omega arith) (omega arith) (omega arith), quarter, stand-back 4 es, t) e
+    rw (b, parts-permitted 7 (4 * s .entries) (omega arith) (omega arith) (omega arith), quarter, stand-back 4 es, t) e
 
 name-tag : TagLaws 1
 unfolding value valueRule store

@@ -3,7 +3,7 @@ ghost use mathlib.Core.Bool.{true};
 ghost use mathlib.Core.Path.{_≡_};
 ghost use Prim.Native.Nat.{_≤_};
 ghost use lib.ListN.{length};
-ghost use Rattle.site.specs.Refusal.{checkedNumber};
+ghost use Rattle.site.specs.Refusal.{checkedNumber, Numbered};
 ghost use Rattle.site.specs.Values.{lengthPermitted};
 ghost use Rattle.field.specs.Field.{entryAt, siteKind, taken, Stored};
 ghost use Rattle.field.specs.Kind.{fieldRule};
@@ -209,7 +209,7 @@ fn store_field(site: Site, tag: u8, value: &[u8]) -> Taken
 // Rules 7 to 10 of a field, and the site with its value.
 pub fn take_field(site: Site, tag: u8, value: &[u8]) -> Taken
     ensures answer { λ r. ⌜ r ≡ taken tag (now (value .entry)) site ⌝ }
-    ensures number { λ r. ⌜ checkedNumber (r .checked) ≡ checkedNumber (fieldRule siteKind tag (now (value .entry)) site) ⌝ }
+    ensures number { λ r. ⌜ Numbered (fieldRule siteKind tag (now (value .entry)) site) (checkedNumber (r .checked)) ⌝ }
 {
     if length_permitted(tag, value.len()) {
         return store_field(site, tag, value);

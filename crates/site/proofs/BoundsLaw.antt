@@ -23,7 +23,7 @@ use Rattle.site.proofs.PartLaws.{all-at}
 use Rattle.site.proofs.LengthLaws.{count-parts}
 use Rattle.site.proofs.FieldLaws.{site-passed}
 
-entry-bounds : (e : Entry) → entryRanged e ≡ true → EntryBounds e
+pub entry-bounds : (e : Entry) → entryRanged e ≡ true → EntryBounds e
 unfolding entryRanged
 entry-bounds e p =
     let species = leb (e .species) (speciesRange .most) in

@@ -6,19 +6,11 @@ use Prim.Native.Nat.{ℕ, zero, suc, _≤_, _<_}
 use native.Mathlib.Omega.{arith}
 use lib.ListN.{length, getD, List·getD-eq-default}
 use Rattle.site.specs.declared.Site.{Site}
-use Rattle.site.specs.declared.Checked.{Checked}
 use Rattle.site.specs.declared.Checked.the-variants.{Passed}
-use Rattle.site.specs.Refusal.{andThen}
 use Rattle.site.specs.Values.{due, countRule, valueRule}
 use Rattle.site.specs.Check.{fieldsRule, siteRule}
 use Rattle.site.proofs.Tests.{le-or-lt}
 use Rattle.site.proofs.Passing.{both-passed}
-
--- a field, and the later ones
-pub fields-cons : (t : ℕ) (ts : List ℕ) (s : Site) {x y r : Checked} → x ≡ andThen (countRule t s) (valueRule t s) → y ≡ fieldsRule ts s
-    → r ≡ andThen x y → r ≡ fieldsRule (t ∷ ts) s
-unfolding fieldsRule
-fields-cons t ts s ex ey er = rw (er, ex, ey)
 
 pub field-passed : (ds : List ℕ) (k : ℕ) (s : Site) → k < length ds → fieldsRule ds s ≡ Passed
     → (countRule (getD ds k 0) s ≡ Passed) × (valueRule (getD ds k 0) s ≡ Passed)

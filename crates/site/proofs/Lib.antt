@@ -6,5 +6,6 @@ pub mod PartLaws
 pub mod StandLaws
 pub mod LengthLaws
 pub mod FieldLaws
+pub mod NumberLaws
 pub mod BoundsLaw
 pub mod ByCheckLaws

@@ -2,7 +2,7 @@
 use mathlib.Core.Path.{_≡_}
 use mathlib.Core.Bool.{Bool, true, false}
 use mathlib.Core.List.{List, [], _∷_}
-use Prim.Native.Nat.{ℕ, zero, suc, _+_, _≤_, _<_}
+use Prim.Native.Nat.{ℕ, zero, suc, _+_, _≤_, _<_, min}
 use native.Mathlib.Omega.{arith}
 use native.Mathlib.Numerals.{add-one}
 use lib.ListN.{length, getD, take, drop, length-take, drop-of-length-le}
@@ -12,26 +12,23 @@ use Rattle.site.proofs.Tests.{and-l, and-r}
 
 module _ {ℓ} {A : Type ℓ} where
   -- what is left of the first n elements of l, from element i on
-  pub part-cons : (n i : ℕ) (l : List A) (d : A) → i < n → i < length l → drop i (take n l) ≡ getD l i d ∷ drop (i + 1) (take n l)
-  part-cons n i l d h k =
-      let b : i < length (take n l) = simp length-take (omega arith) in
-      rw (add-one, drop-cons (take n l) i d, getD-take n l i d)
-
-  pub part-end : (n i : ℕ) (l : List A) → n ≤ i → drop i (take n l) ≡ []
+  pub part-end : (n i : ℕ) (l : List A) → min n (length l) ≤ i → drop i (take n l) ≡ []
   part-end n i l h = drop-of-length-le (take n l) {i = i} (simp length-take (omega arith))
 
-  pub part-past : (n i : ℕ) (l : List A) → length l ≤ i → drop i (take n l) ≡ []
-  part-past n i l h = drop-of-length-le (take n l) {i = i} (simp length-take (omega arith))
+  module _ (n i : ℕ) (l : List A) (d : A) (h : i < min n (length l)) where
+    pub part-cons : drop i (take n l) ≡ getD l i d ∷ drop (i + 1) (take n l)
+    part-cons =
+        let inside : i < length (take n l) = simp length-take (omega arith) in
+        let below : i < n = omega arith in
+        rw (add-one, drop-cons (take n l) i d, getD-take n l i d)
 
-  pub all-step : (f : A → Bool) (n i : ℕ) (l : List A) (d : A) → i < n → i < length l → f (getD l i d) ≡ true
-      → allOf f (drop i (take n l)) ≡ allOf f (drop (i + 1) (take n l))
-  unfolding allOf
-  all-step f n i l d h k e = rw (part-cons n i l d, e)
+    pub all-next : (f : A → Bool) → f (getD l i d) ≡ true → allOf f (drop i (take n l)) ≡ allOf f (drop (i + 1) (take n l))
+    unfolding allOf
+    all-next f e = rw (part-cons, e)
 
-  pub all-stop : (f : A → Bool) (n i : ℕ) (l : List A) (d : A) → i < n → i < length l → f (getD l i d) ≡ false
-      → allOf f (drop i (take n l)) ≡ false
-  unfolding allOf
-  all-stop f n i l d h k e = rw (part-cons n i l d, e)
+    pub all-stop : (f : A → Bool) → f (getD l i d) ≡ false → allOf f (drop i (take n l)) ≡ false
+    unfolding allOf
+    all-stop f e = rw (part-cons, e)
 
   pub all-at : (f : A → Bool) (l : List A) (i : ℕ) (d : A) → i < length l → allOf f l ≡ true → f (getD l i d) ≡ true
   unfolding allOf

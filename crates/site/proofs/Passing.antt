@@ -1,5 +1,5 @@
 -- What a check that passed says.
-use mathlib.Core.Path.{_≡_, refl, ap}
+use mathlib.Core.Path.{_≡_, refl}
 use mathlib.Core.Bool.{Bool, true, false}
 use Prim.Native.Nat.{ℕ, _≤_}
 use native.Mathlib.Omega.{arith}
@@ -10,7 +10,7 @@ use Rattle.site.specs.declared.Rule.the-variants.{OutOfRange}
 use Rattle.site.specs.declared.Checked.{Checked}
 use Rattle.site.specs.declared.Checked.the-variants.{Passed, Broken}
 use Rattle.site.specs.Choice.{pick}
-use Rattle.site.specs.Refusal.{andThen, checkedNumber}
+use Rattle.site.specs.Refusal.{andThen}
 use Rattle.site.specs.Ranges.{Range}
 use Rattle.site.specs.Values.{ranged, inside, between}
 use Rattle.site.proofs.Tests.{and-l, and-r}
@@ -43,7 +43,3 @@ inside-both r x h =
 pub between-passed : (r : Range) (x : ℕ) → between r x ≡ Passed → (r .least ≤ x) × (x ≤ r .most)
 unfolding between
 between-passed r x e = inside-both r x (ranged-passed _ e)
-
--- an answer, and its number
-pub with-number : (a b : Checked) → a ≡ b → (a ≡ b) × (checkedNumber a ≡ checkedNumber b)
-with-number a b e = (e, ap checkedNumber e)

@@ -6,3 +6,4 @@ pub mod Check
 pub mod ByCheck
 pub mod Bytes
 pub mod Bounds
+pub mod ExampleSite

@@ -1,5 +1,7 @@
 -- Document 01, "Where each check stands": the refusals by number.
-use Prim.Native.Nat.{ℕ}
+use Prim.Native.Nat.{ℕ, _≤_}
+use mathlib.Core.Path.{_≡_}
+use mathlib.Core.Logic.{_⊎_}
 use mathlib.Core.List.{List, [], _∷_}
 use Rattle.site.specs.declared.Rule.{Rule}
 use Rattle.site.specs.declared.Rule.the-variants.{NoBytes, OuterCut, OuterTag, TooMany, InnerCut, InnerTag, BadLength, OutOfRange, NotRising, SharesNotWhole, BufferShort}
@@ -23,6 +25,15 @@ ruleNumber BufferShort = 11
 unfoldable pub checkedNumber : Checked → ℕ
 checkedNumber Passed = 0
 checkedNumber (Broken r) = ruleNumber r
+
+-- n is the number of what the check of a site value or of a field says: 0 where it passes, else 7 to 10
+pub record Numbered (c : Checked) (n : ℕ) : Type 0 where
+  pub passed : c ≡ Passed → n ≡ 0
+  pub bad-length : c ≡ Broken BadLength → n ≡ 7
+  pub out-of-range : c ≡ Broken OutOfRange → n ≡ 8
+  pub not-rising : c ≡ Broken NotRising → n ≡ 9
+  pub shares-not-whole : c ≡ Broken SharesNotWhole → n ≡ 10
+  pub no-other : (n ≡ 0) ⊎ ((7 ≤ n) × (n ≤ 10))
 
 -- the first of two checks that is broken
 unfoldable pub andThen : Checked → Checked → Checked

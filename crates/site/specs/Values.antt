@@ -8,6 +8,7 @@ use Rattle.site.specs.Choice.{pick}
 use Rattle.site.specs.Ranges.{Range, mostName, parentRange, mostTexture, depthRange, drainageRange, percolationRange, mostEntries, speciesRange, shareRange, yieldRange, immobilisationRange, availableRange, baseDepositionRange, ratioRange, gibbsiteRange, ceilingRange, leachateRange}
 use Rattle.site.specs.declared.Site.{Site}
 use Rattle.site.specs.declared.Entry.{Entry}
+use Rattle.site.specs.declared.length.Items.{Items}
 use Rattle.site.specs.declared.Rule.the-variants.{BadLength, OutOfRange, NotRising, SharesNotWhole}
 use Rattle.site.specs.declared.Checked.{Checked}
 use Rattle.site.specs.declared.Checked.the-variants.{Passed, Broken}
@@ -16,25 +17,47 @@ use Rattle.site.specs.declared.Checked.the-variants.{Passed, Broken}
 abbrev pub due : List ℕ
 due = 1 ∷ 2 ∷ 3 ∷ 4 ∷ 5 ∷ 6 ∷ 7 ∷ 8 ∷ 9 ∷ 10 ∷ 11 ∷ 12 ∷ 13 ∷ 14 ∷ 15 ∷ []
 
--- A field holds items: the bytes of the name, the entries of the stand, else one value. By tag from 0: the bytes of an item, and
--- how many items there may be.
-abbrev pub itemWidths : List ℕ
-itemWidths = 1 ∷ 1 ∷ 1 ∷ 2 ∷ 1 ∷ 1 ∷ 2 ∷ 4 ∷ 2 ∷ 1 ∷ 2 ∷ 2 ∷ 2 ∷ 2 ∷ 2 ∷ 4 ∷ []
+-- A field holds items: the bytes of the name, the entries of the stand, else one value. Here: w bytes each, at most n of them.
+abbrev items : ℕ → ℕ → Items
+items w n = record { width = w; most = n }
 
-abbrev pub mostItems : List ℕ
-mostItems = 0 ∷ mostName ∷ 1 ∷ 1 ∷ 1 ∷ 1 ∷ 1 ∷ mostEntries ∷ 1 ∷ 1 ∷ 1 ∷ 1 ∷ 1 ∷ 1 ∷ 1 ∷ 1 ∷ []
+abbrev pub noItems : Items
+noItems = items 1 0
+
+-- by tag
+abbrev pub fieldItems : List Items
+fieldItems =
+    noItems
+    ∷ items 1 mostName  -- 01 name
+    ∷ items 1 1  -- 02 parent material
+    ∷ items 2 1  -- 03 clay, sand
+    ∷ items 1 1  -- 04 depth
+    ∷ items 1 1  -- 05 drainage
+    ∷ items 2 1  -- 06 percolation
+    ∷ items 4 mostEntries  -- 07 stand
+    ∷ items 2 1  -- 08 immobilisation
+    ∷ items 1 1  -- 09 available share
+    ∷ items 2 1  -- 0A base cation deposition
+    ∷ items 2 1  -- 0B ratio
+    ∷ items 2 1  -- 0C gibbsite constant
+    ∷ items 2 1  -- 0D ceiling
+    ∷ items 2 1  -- 0E leachate
+    ∷ items 4 1  -- 0F deposition
+    ∷ []
+
+abbrev pub itemsOf : ℕ → Items
+itemsOf t = getD fieldItems t noItems
 
 -- rule 7 for n bytes: a whole number of items, at least one
 unfoldable pub lengthPermitted : ℕ → ℕ → Bool
-lengthPermitted t n =
-    pick (leb 16 t) false (leb 1 n && leb n (getD itemWidths t 1 * getD mostItems t 0) && eqb (n % getD itemWidths t 1) 0)
+lengthPermitted t n = leb 1 n && leb n (itemsOf t .width * itemsOf t .most) && eqb (n % itemsOf t .width) 0
 
 -- rule 7 for a site value
 unfoldable pub itemCount : ℕ → Site → ℕ
 itemCount t s = pick (eqb t 1) (s .«name_len») (pick (eqb t 7) (s .entries) 1)
 
 unfoldable pub countRule : ℕ → Site → Checked
-countRule t s = pick (leb 1 (itemCount t s) && leb (itemCount t s) (getD mostItems t 0)) Passed (Broken BadLength)
+countRule t s = pick (leb 1 (itemCount t s) && leb (itemCount t s) (itemsOf t .most)) Passed (Broken BadLength)
 
 -- A–Z, 0–9, hyphen
 unfoldable pub nameByte : ℕ → Bool
@@ -66,20 +89,18 @@ unfoldable pub sharesOf : List Entry → ℕ
 sharesOf [] = 0
 sharesOf (e ∷ es) = e .share + sharesOf es
 
+-- rules 9 and 10 of a stand whose species rise or not and whose shares have the given sum
+abbrev pub orderRule : Bool → ℕ → Checked
+orderRule rising shares = pick rising (pick (eqb shares 100) Passed (Broken SharesNotWhole)) (Broken NotRising)
+
 -- rule 8 over all entries, then 9, then 10
 unfoldable pub standRule : List Entry → Checked
-standRule es =
-    pick (allOf entryRanged es)
-    (pick (risingFrom 0 es)
-    (pick (eqb (sharesOf es) 100) Passed (Broken SharesNotWhole))
-    (Broken NotRising))
-    (Broken OutOfRange)
+standRule es = pick (allOf entryRanged es) (orderRule (risingFrom 0 es) (sharesOf es)) (Broken OutOfRange)
 
--- rules 8, 9 and 10 of the field with tag t
-unfoldable pub valueRule : ℕ → Site → Checked
-valueRule t s =
-    getD
-    (Passed
+-- rules 8, 9 and 10 of each field, by tag; the deposition has none
+abbrev pub valueRules : Site → List Checked
+valueRules s =
+    Passed
     ∷ ranged (allOf nameByte (take (s .«name_len») (s .name)))
     ∷ between parentRange (s .parent)
     ∷ ranged (leb ((s .clay) + s .sand) mostTexture)
@@ -94,5 +115,7 @@ valueRule t s =
     ∷ between gibbsiteRange (s .gibbsite)
     ∷ between ceilingRange (s .ceiling)
     ∷ between leachateRange (s .leachate)
-    ∷ [])
-    t Passed
+    ∷ []
+
+unfoldable pub valueRule : ℕ → Site → Checked
+valueRule t s = getD (valueRules s) t Passed

@@ -1,23 +1,13 @@
 // The check of a site value: rules 7 to 10 in tag order.
 ghost use mathlib.Core.List.{List, _∷_};
 ghost use mathlib.Core.Path.{_≡_};
-ghost use Prim.Native.Nat.{ℕ};
+ghost use Prim.Native.Nat.{ℕ, _+_, _≤_};
 ghost use Rattle.site.specs.Check.{fieldsRule, siteRule};
-ghost use Rattle.site.specs.Refusal.{andThen, checkedNumber};
-ghost use Rattle.site.specs.Values.{countRule, valueRule};
+ghost use Rattle.site.specs.Refusal.{andThen, checkedNumber, Numbered};
 use crate::Checked;
 use crate::Site;
 use crate::length::count_rule;
 use crate::value::field_rule;
-
-fn check_field(site: Site, tag: u8) -> Checked
-    ensures { λ r. ⌜ r ≡ andThen (countRule tag site) (valueRule tag site) ⌝ }
-{
-    match count_rule(site, tag) {
-        Checked::Broken(rule) => Checked::Broken(rule),
-        Checked::Passed => field_rule(site, tag),
-    }
-}
 
 // The first that is broken.
 fn both(a: Checked, b: Checked) -> Checked
@@ -29,45 +19,32 @@ fn both(a: Checked, b: Checked) -> Checked
     }
 }
 
-// Five fields, and what the check of the later ones says. With no loop each tag is known, and its rule is a few tests.
-fn first_fields(site: Site, after: Checked) -> Checked
-    ensures { λ r. ⌜ ((ts : List ℕ) → after ≡ fieldsRule ts site → r ≡ fieldsRule (1 ∷ 2 ∷ 3 ∷ 4 ∷ 5 ∷ ts) site) ⌝ }
+// A field, then what the check of the later ones says.
+fn check_field(site: Site, tag: u8, later: Checked) -> Checked
+    ensures { λ r. ⌜ ((ts : List ℕ) → later ≡ fieldsRule ts site → r ≡ fieldsRule (tag ∷ ts) site) ⌝ }
 {
-    let a = check_field(site, 1);
-    let b = check_field(site, 2);
-    let c = check_field(site, 3);
-    let d = check_field(site, 4);
-    let e = check_field(site, 5);
-    both(a, both(b, both(c, both(d, both(e, after)))))
+    let count = count_rule(site, tag);
+    let value = field_rule(site, tag);
+    both(both(count, value), later)
 }
 
-fn middle_fields(site: Site, after: Checked) -> Checked
-    ensures { λ r. ⌜ ((ts : List ℕ) → after ≡ fieldsRule ts site → r ≡ fieldsRule (6 ∷ 7 ∷ 8 ∷ 9 ∷ 10 ∷ ts) site) ⌝ }
+// Five fields from tag t on, then the later ones. With no loop each tag is known where it is checked, and its rule is a few tests.
+fn five_fields(site: Site, t: u8, later: Checked) -> Checked
+    requires { ⌜ t ≤ 251 ⌝ }
+    ensures { λ r. ⌜ ((ts : List ℕ) → later ≡ fieldsRule ts site → r ≡ fieldsRule (t ∷ (t + 1) ∷ (t + 2) ∷ (t + 3) ∷ (t + 4) ∷ ts) site) ⌝ }
 {
-    let a = check_field(site, 6);
-    let b = check_field(site, 7);
-    let c = check_field(site, 8);
-    let d = check_field(site, 9);
-    let e = check_field(site, 10);
-    both(a, both(b, both(c, both(d, both(e, after)))))
-}
-
-fn last_fields(site: Site, after: Checked) -> Checked
-    ensures { λ r. ⌜ ((ts : List ℕ) → after ≡ fieldsRule ts site → r ≡ fieldsRule (11 ∷ 12 ∷ 13 ∷ 14 ∷ 15 ∷ ts) site) ⌝ }
-{
-    let a = check_field(site, 11);
-    let b = check_field(site, 12);
-    let c = check_field(site, 13);
-    let d = check_field(site, 14);
-    let e = check_field(site, 15);
-    both(a, both(b, both(c, both(d, both(e, after)))))
+    let e = check_field(site, t + 4, later);
+    let d = check_field(site, t + 3, e);
+    let c = check_field(site, t + 2, d);
+    let b = check_field(site, t + 1, c);
+    check_field(site, t, b)
 }
 
 pub fn check_site(site: Site) -> Checked
     ensures answer { λ r. ⌜ r ≡ siteRule site ⌝ }
-    ensures number { λ r. ⌜ checkedNumber r ≡ checkedNumber (siteRule site) ⌝ }
+    ensures number { λ r. ⌜ Numbered (siteRule site) (checkedNumber r) ⌝ }
 {
-    let last = last_fields(site, Checked::Passed);
-    let middle = middle_fields(site, last);
-    first_fields(site, middle)
+    let last = five_fields(site, 11, Checked::Passed);
+    let middle = five_fields(site, 6, last);
+    five_fields(site, 1, middle)
 }

@@ -1,71 +1,50 @@
 // Rule 7, for the bytes of a field and for a site value.
 ghost use mathlib.Core.Path.{_≡_};
-ghost use lib.ListN.{getD};
-ghost use Rattle.site.specs.Values.{itemWidths, mostItems, lengthPermitted, itemCount, countRule};
+ghost use Rattle.site.specs.Values.{itemsOf, lengthPermitted, itemCount, countRule};
 use crate::Checked;
 use crate::Rule;
 use crate::Site;
 use crate::numbers::wide;
 
-// By tag: the bytes of an item. A match and no constant array, which would be set up anew at each call.
-fn item_width(tag: u8) -> usize
-    ensures { λ r. ⌜ r ≡ getD itemWidths tag 1 ⌝ }
-{
-    match tag {
-        1 => 1,
-        2 => 1,
-        3 => 2,
-        4 => 1,
-        5 => 1,
-        6 => 2,
-        7 => 4,
-        8 => 2,
-        9 => 1,
-        10 => 2,
-        11 => 2,
-        12 => 2,
-        13 => 2,
-        14 => 2,
-        15 => 4,
-        _ => 1,
-    }
+// How many bytes an item of a field has, and how many items there may be.
+struct Items {
+    width: usize,
+    most: usize,
 }
 
-// By tag: how many items there may be.
-fn most_items(tag: u8) -> usize
-    ensures { λ r. ⌜ r ≡ getD mostItems tag 0 ⌝ }
+// A match and no constant array, which would be set up anew at each call.
+fn items_of(tag: u8) -> Items
+    ensures { λ r. ⌜ r ≡ itemsOf tag ⌝ }
 {
     match tag {
-        1 => 8,
-        2 => 1,
-        3 => 1,
-        4 => 1,
-        5 => 1,
-        6 => 1,
-        7 => 4,
-        8 => 1,
-        9 => 1,
-        10 => 1,
-        11 => 1,
-        12 => 1,
-        13 => 1,
-        14 => 1,
-        15 => 1,
-        _ => 0,
+        1 => Items { width: 1, most: 8 },
+        2 => Items { width: 1, most: 1 },
+        3 => Items { width: 2, most: 1 },
+        4 => Items { width: 1, most: 1 },
+        5 => Items { width: 1, most: 1 },
+        6 => Items { width: 2, most: 1 },
+        7 => Items { width: 4, most: 4 },
+        8 => Items { width: 2, most: 1 },
+        9 => Items { width: 1, most: 1 },
+        10 => Items { width: 2, most: 1 },
+        11 => Items { width: 2, most: 1 },
+        12 => Items { width: 2, most: 1 },
+        13 => Items { width: 2, most: 1 },
+        14 => Items { width: 2, most: 1 },
+        15 => Items { width: 4, most: 1 },
+        _ => Items { width: 1, most: 0 },
     }
 }
 
 pub fn length_permitted(tag: u8, n: usize) -> bool
     ensures { λ r. ⌜ r ≡ lengthPermitted tag n ⌝ }
 {
-    if 16 <= tag {
-        return false;
-    }
     if n < 1 {
         return false;
     }
-    let width = item_width(tag);
-    if width * most_items(tag) < n {
+    let items = items_of(tag);
+    let width = items.width;
+    if width * items.most < n {
         return false;
     }
     // most fields are one item, and need no division
@@ -92,7 +71,8 @@ pub fn count_rule(site: Site, tag: u8) -> Checked
     if n < 1 {
         return Checked::Broken(Rule::BadLength);
     }
-    if n <= most_items(tag) {
+    let items = items_of(tag);
+    if n <= items.most {
         return Checked::Passed;
     }
     Checked::Broken(Rule::BadLength)

@@ -4,7 +4,7 @@ ghost use lib.ListN.{take};
 ghost use Rattle.site.specs.Values.{nameByte, allOf, ranged};
 use crate::Checked;
 use crate::numbers::in_range;
-use crate::numbers::wide;
+use crate::numbers::part_len;
 
 fn name_byte(b: u8) -> bool
     ensures { λ r. ⌜ r ≡ nameByte b ⌝ }
@@ -24,15 +24,12 @@ fn name_byte(b: u8) -> bool
 fn name_ranged(name: [u8; 8], n: u8) -> bool
     ensures { λ r. ⌜ r ≡ allOf nameByte (take n name) ⌝ }
 {
-    let count = wide(n);
+    let count = part_len(n, 8);
     let mut i: usize = 0;
-    while i < 8 {
-        if count <= i {
-            return true;
-        }
+    while i < count {
         let b = name[i];
         if name_byte(b) {
-            i = i + 1;
+            i += 1;
         } else {
             return false;
         }

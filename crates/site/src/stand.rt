@@ -1,10 +1,14 @@
 // Rules 8, 9 and 10 for the first n entries of the stand.
+ghost use mathlib.Core.Bool.{_&&_};
 ghost use mathlib.Core.Path.{_≡_};
+ghost use Prim.Native.Nat.{_+_, _≤_};
+ghost use lib.Dec.{leb};
 ghost use lib.ListN.{take};
-ghost use Rattle.site.specs.Values.{allOf, entryRanged, risingFrom, sharesOf, standRule};
+ghost use Rattle.site.specs.Values.{entryRanged, orderRule, standRule};
 use crate::Checked;
 use crate::Entry;
 use crate::Rule;
+use crate::numbers::part_len;
 use crate::numbers::wide;
 
 fn entry_ranged(e: Entry) -> bool
@@ -20,74 +24,65 @@ fn entry_ranged(e: Entry) -> bool
     false
 }
 
-fn entries_ranged(stand: [Entry; 4], n: u8) -> bool
-    ensures { λ r. ⌜ r ≡ allOf entryRanged (take n stand) ⌝ }
-{
-    let count = wide(n);
-    let mut i: usize = 0;
-    while i < 4 {
-        if count <= i {
-            return true;
-        }
-        let e = stand[i];
-        if entry_ranged(e) {
-            i = i + 1;
-        } else {
-            return false;
-        }
-    }
-    true
+// What entries in range have shown: whether their species rise, the least that the next may be, and the sum of their shares.
+struct Seen {
+    rising: bool,
+    least: usize,
+    shares: usize,
 }
 
-fn species_rise(stand: [Entry; 4], n: u8) -> bool
-    ensures { λ r. ⌜ r ≡ risingFrom 0 (take n stand) ⌝ }
+fn with_entry(seen: Seen, e: Entry) -> Seen
+    requires { ⌜ seen .shares ≤ 300 ⌝ }
+    ensures { λ r. ⌜ r ≡ record { rising = (seen .rising) && leb (seen .least) (e .species); least = e .species + 1; shares = seen .shares + e .share } ⌝ }
 {
-    let count = wide(n);
-    let mut lo: usize = 0;
-    let mut i: usize = 0;
-    while i < 4 {
-        if count <= i {
-            return true;
-        }
-        let e = stand[i];
-        let species = wide(e.species);
-        if species < lo {
-            return false;
-        }
-        lo = species + 1;
-        i = i + 1;
+    let species = wide(e.species);
+    let least = species + 1;
+    let shares = seen.shares + wide(e.share);
+    if species < seen.least {
+        return Seen {
+            rising: false,
+            least,
+            shares,
+        };
     }
-    true
+    Seen {
+        rising: seen.rising,
+        least,
+        shares,
+    }
 }
 
-fn share_sum(stand: [Entry; 4], n: u8) -> usize
-    ensures { λ r. ⌜ r ≡ sharesOf (take n stand) ⌝ }
+// Rules 9 and 10.
+fn seen_rule(seen: Seen) -> Checked
+    ensures { λ r. ⌜ r ≡ orderRule (seen .rising) (seen .shares) ⌝ }
 {
-    let count = wide(n);
-    let mut sum: usize = 0;
-    let mut i: usize = 0;
-    while i < 4 {
-        if count <= i {
-            return sum;
+    if seen.rising {
+        if seen.shares == 100 {
+            return Checked::Passed;
         }
-        let e = stand[i];
-        sum = sum + wide(e.share);
-        i = i + 1;
+        return Checked::Broken(Rule::SharesNotWhole);
     }
-    sum
+    Checked::Broken(Rule::NotRising)
 }
 
 pub fn stand_rule(stand: [Entry; 4], n: u8) -> Checked
     ensures { λ r. ⌜ r ≡ standRule (take n stand) ⌝ }
 {
-    if entries_ranged(stand, n) {
-        if species_rise(stand, n) {
-            if share_sum(stand, n) == 100 {
-                return Checked::Passed;
-            }
-            return Checked::Broken(Rule::SharesNotWhole);
+    let count = part_len(n, 4);
+    let mut seen = Seen {
+        rising: true,
+        least: 0,
+        shares: 0,
+    };
+    let mut i: usize = 0;
+    while i < count {
+        let e = stand[i];
+        if entry_ranged(e) {
+            seen = with_entry(seen, e);
+            i += 1;
+        } else {
+            return Checked::Broken(Rule::OutOfRange);
         }
-        return Checked::Broken(Rule::NotRising);
     }
-    Checked::Broken(Rule::OutOfRange)
+    seen_rule(seen)
 }

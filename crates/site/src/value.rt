@@ -1,6 +1,5 @@
 // Rules 8, 9 and 10 of a site's field with a given tag.
 ghost use mathlib.Core.Path.{_≡_};
-ghost use Rattle.site.specs.Refusal.{checkedNumber};
 ghost use Rattle.site.specs.Values.{valueRule};
 use crate::Checked;
 use crate::Site;
@@ -20,8 +19,7 @@ use crate::ranges::texture_rule;
 use crate::stand::stand_rule;
 
 pub fn field_rule(site: Site, tag: u8) -> Checked
-    ensures answer { λ r. ⌜ r ≡ valueRule tag site ⌝ }
-    ensures number { λ r. ⌜ checkedNumber r ≡ checkedNumber (valueRule tag site) ⌝ }
+    ensures { λ r. ⌜ r ≡ valueRule tag site ⌝ }
 {
     match tag {
         1 => {

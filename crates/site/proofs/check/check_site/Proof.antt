@@ -1,26 +1,30 @@
 use mathlib.Core.Path.{refl}
 use mathlib.Core.List.{[]}
 use lib.ListN.{drop}
-use Rattle.site.specs.Values.{due}
-use Rattle.site.specs.Check.{fieldsRule, siteRule}
-use Rattle.site.proofs.Passing.{with-number}
 use borrow.Author.Needs.{needs}
+use Rattle.site.specs.Check.{fieldsRule, siteRule}
+use Rattle.site.specs.Values.{due}
+use Rattle.site.proofs.NumberLaws.{numbered, known-site}
 use Rattle.site.proofs.check.check_site.Statement.{statement}
 use Rattle.site.proofs.check.check_site.Tie as tie
 
-last-fields-requires : tie.Need-last-fields-requires
-last-fields-requires c κs = search needs
+five-fields-requires : tie.Need-five-fields-requires
+five-fields-requires c κs = search needs
 
-middle-fields-requires : tie.Need-middle-fields-requires
-middle-fields-requires c κs = search needs
+five-fields-requires-2 : tie.Need-five-fields-requires-2
+five-fields-requires-2 c κs = search needs
 
-first-fields-requires : tie.Need-first-fields-requires
-first-fields-requires c κs = search needs
+five-fields-requires-3 : tie.Need-five-fields-requires-3
+five-fields-requires-3 c κs = search needs
 
 returns : tie.Need-returns
 unfolding fieldsRule siteRule
-returns c = with-number _ _ (c .first-fields .ensures (drop 5 due) (c .before .middle-fields .ensures (drop 10 due) (c .before .before .last-fields .ensures [] refl)))
+returns c =
+    let last = c .before .before .five-fields .ensures [] refl in
+    let middle = c .before .five-fields2 .ensures (drop 10 due) last in
+    let all = c .five-fields3 .ensures (drop 5 due) middle in
+    (all, numbered _ _ all (known-site _))
 
 pub check-site-spec : {M : Type 1} → statement M
 check-site-spec =
-    tie.close (tie.spec last-fields-requires middle-fields-requires first-fields-requires returns)
+    tie.close (tie.spec five-fields-requires five-fields-requires-2 five-fields-requires-3 returns)

@@ -1,57 +1,41 @@
 use mathlib.Core.Path.{_≡_, sym}
 use Prim.Native.Nat.{_%_}
-use native.Mathlib.Nat.{mul-le-mul, mod-self}
+use native.Mathlib.Nat.{mod-self}
 use native.Mathlib.Omega.{arith}
 use lib.Dec.{eqb}
-use lib.ListN.{getD}
 use borrow.Author.Needs.{needs}
-use Rattle.site.specs.Values.{itemWidths, lengthPermitted}
-use Rattle.site.proofs.LengthLaws.{width-positive, width-at-most, items-at-most, permitted-past, permitted-none, permitted-more, permitted-items}
+use Rattle.site.specs.Values.{itemsOf, lengthPermitted}
+use Rattle.site.proofs.LengthLaws.{width-positive, longest, permitted-none, permitted-more, permitted-items}
 use Rattle.site.proofs.length.length_permitted.Statement.{statement}
 use Rattle.site.proofs.length.length_permitted.Tie as tie
 
-items : (c : tie.Else3) → let a = c .before .before .before .before .before .args in lengthPermitted (a .tag) (a .n) ≡ eqb (a .n % getD itemWidths (a .tag) 1) 0
-items c = permitted-items _ _ (c .before .before .before .before .if1 .left) (c .before .before .before .if2 .left) (rw (c .before .before .item-width .ensures, c .before .most-items .ensures) at (c .if3 .left))
+whole : (c : tie.Else2)
+    → let a = c .before .before .before .before .args in lengthPermitted (a .tag) (a .n) ≡ eqb (a .n % c .before .before .items-of .result .width) 0
+whole c =
+    rw (c .before .before .items-of .ensures)
+    (permitted-items _ _ (c .before .before .before .if1 .left) (rw (c .before .before .items-of .ensures) at (c .if2 .left)))
 
 returns : tie.Need-returns
-returns c = sym (permitted-past _ _ (c .if1 .taken))
+returns c = sym (permitted-none _ _ (c .if1 .taken))
+
+items-of-requires : tie.Need-items-of-requires
+items-of-requires c κs = search needs
+
+mul-if2 : tie.Need-mul-if2
+mul-if2 c = rw (c .before .items-of .ensures) (omega (arith, longest (c .before .before .before .args .tag)))
 
 returns-2 : tie.Need-returns-2
-returns-2 c = sym (permitted-none _ _ (c .before .if1 .left) (c .if2 .taken))
-
-item-width-requires : tie.Need-item-width-requires
-item-width-requires c κs = search needs
-
-most-items-requires : tie.Need-most-items-requires
-most-items-requires c κs = search needs
-
-mul-if3 : tie.Need-mul-if3
-mul-if3 c =
-    let t = c .before .before .before .before .args .tag in
-    rw (c .before .item-width .ensures, c .most-items .ensures) (omega (arith, mul-le-mul (width-at-most t) (items-at-most t)))
+returns-2 c = sym (permitted-more _ _ (c .before .before .before .if1 .left) (rw (c .before .before .items-of .ensures) at (c .if2 .taken)))
 
 returns-3 : tie.Need-returns-3
-returns-3 c = sym (permitted-more _ _ (c .before .before .before .before .if1 .left) (c .before .before .before .if2 .left) (rw (c .before .before .item-width .ensures, c .before .most-items .ensures) at (c .if3 .taken)))
-
-returns-4 : tie.Need-returns-4
-returns-4 c = rw (items (c .before), sym (c .before .before .before .item-width .ensures), sym (c .if4 .taken), mod-self)
+returns-3 c = rw (whole (c .before), sym (c .if3 .taken), mod-self)
 
 rem-result : tie.Need-rem-result
-rem-result c = rw (c .before .before .before .item-width .ensures) (width-positive (c .before .before .before .before .before .before .args .tag))
+rem-result c = rw (c .before .before .before .items-of .ensures) (width-positive (c .before .before .before .before .before .args .tag))
 
-returns-5 : tie.Need-returns-5
-returns-5 c = rw (items (c .before), sym (c .before .before .before .item-width .ensures))
+returns-4 : tie.Need-returns-4
+returns-4 c = sym (whole (c .before))
 
 pub length-permitted-spec : {M : Type 1} → statement M
 length-permitted-spec =
-    tie.close
-    (tie.spec
-    returns
-    returns-2
-    item-width-requires
-    most-items-requires
-    mul-if3
-    returns-3
-    returns-4
-    rem-result
-    returns-5)
+    tie.close (tie.spec returns items-of-requires mul-if2 returns-2 returns-3 rem-result returns-4)

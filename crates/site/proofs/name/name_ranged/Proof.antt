@@ -1,36 +1,29 @@
 use mathlib.Core.Path.{_≡_, sym, _∙_}
-use Prim.Native.Nat.{_-_, _≤_, _<_}
+use Prim.Native.Nat.{_-_, _≤_, _<_, min}
 use native.Mathlib.Omega.{arith}
 use lib.ListN.{length, take, drop}
 use borrow.Author.Needs.{needs}
 use Rattle.site.specs.Values.{nameByte, allOf}
-use Rattle.site.proofs.PartLaws.{part-end, part-past, all-step, all-stop}
+use Rattle.site.proofs.PartLaws.{part-end, all-next, all-stop}
 use Rattle.site.proofs.name.name_ranged.Statement.{statement}
 use Rattle.site.proofs.name.name_ranged.Tie as tie
 
 abbrev Inv-loop : tie.InvT-loop
-Inv-loop n name count i₀ i = (i ≤ 8) × (allOf nameByte (take n name) ≡ allOf nameByte (drop i (take n name)))
+Inv-loop n name count i₀ i = (i ≤ count) × (allOf nameByte (take n name) ≡ allOf nameByte (drop i (take n name)))
 
 abbrev μ-loop : tie.MeasureT-loop
-μ-loop n name count i₀ i = 8 - i
+μ-loop n name count i₀ i = count - i
 
--- what the loop reads is one of the first n, and of the array
-inside : (c : tie.Else1 Inv-loop μ-loop)
-    → (c .before .before .loop .i < c .before .before .before .before .args .n) × (c .before .before .loop .i < length (c .before .before .before .before .args .t1))
-inside c = let z : length (c .before .before .before .before .args .t1) ≡ 8 = search needs in (omega arith, omega arith)
+-- what the loop reads is one of the first n
+inside : (c : tie.In-loop Inv-loop μ-loop)
+    → let a = c .before .before .before .args in c .before .loop .i < min (a .n) (length (a .t1))
+inside c = let z : length (c .before .before .before .args .t1) ≡ 8 = search needs in omega arith
 
-wide-requires : tie.Need-wide-requires Inv-loop μ-loop
-wide-requires c κs = search needs
+part-len-requires : tie.Need-part-len-requires Inv-loop μ-loop
+part-len-requires c κs = search needs
 
 loop-holds : tie.Need-loop-holds Inv-loop μ-loop
 loop-holds c = search needs
-
-returns : tie.Need-returns Inv-loop μ-loop
-unfolding allOf
-returns c =
-    let a = c .before .before .before .before .args in
-    let h : a .n ≤ c .before .before .loop .i = omega arith in
-    rw (c .before .before .loop .inv .1, part-end (a .n) (c .before .before .loop .i) (a .t1) h)
 
 array-read-b : tie.Need-array-read-b Inv-loop μ-loop
 array-read-b c = search needs
@@ -47,26 +40,20 @@ loop-less c = search needs
 loop-again : tie.Need-loop-again Inv-loop μ-loop
 loop-again c =
     let r = c .before .before in
-    let i = inside r in
-    let a = r .before .before .before .before .args in (
-      search needs,
-      r .before .before .loop .inv .1 ∙ all-step nameByte (a .n) (r .before .before .loop .i) (a .t1) 0 (i .0) (i .1) (sym (c .before .name-byte .ensures) ∙ c .if2 .taken),
-    )
+    (search needs, r .before .loop .inv .1 ∙ all-next _ _ _ 0 (inside r) nameByte (sym (c .before .name-byte .ensures) ∙ c .if1 .taken))
+
+returns : tie.Need-returns Inv-loop μ-loop
+returns c =
+    let r = c .before .before in
+    sym (r .before .loop .inv .1 ∙ all-stop _ _ _ 0 (inside r) nameByte (sym (c .before .name-byte .ensures) ∙ c .if1 .left))
 
 returns-2 : tie.Need-returns-2 Inv-loop μ-loop
-returns-2 c =
-    let r = c .before .before in
-    let i = inside r in
-    let a = r .before .before .before .before .args in
-    sym (r .before .before .loop .inv .1 ∙ all-stop nameByte (a .n) (r .before .before .loop .i) (a .t1) 0 (i .0) (i .1) (sym (c .before .name-byte .ensures) ∙ c .if2 .left))
-
-returns-3 : tie.Need-returns-3 Inv-loop μ-loop
 unfolding allOf
-returns-3 c =
+returns-2 c =
     let a = c .before .before .before .args in
     let z : length (a .t1) ≡ 8 = search needs in
-    let h : length (a .t1) ≤ c .before .loop .i = omega arith in
-    rw (c .before .loop .inv .1, part-past (a .n) (c .before .loop .i) (a .t1) h)
+    let h : min (a .n) (length (a .t1)) ≤ c .before .loop .i = omega arith in
+    rw (c .before .loop .inv .1, part-end (a .n) (c .before .loop .i) (a .t1) h)
 
 pub name-ranged-spec : {M : Type 1} → statement M
 name-ranged-spec =
@@ -74,13 +61,12 @@ name-ranged-spec =
     (tie.spec
     Inv-loop
     μ-loop
-    wide-requires
+    part-len-requires
     loop-holds
-    returns
     array-read-b
     name-byte-requires
     add-i
     loop-less
     loop-again
-    returns-2
-    returns-3)
+    returns
+    returns-2)

@@ -1,56 +1,88 @@
-use mathlib.Core.Path.{sym, _∙_}
+use mathlib.Core.Path.{_≡_, sym, _∙_}
+use Prim.Native.Nat.{_*_, _-_, _≤_, _<_, min}
+use native.Mathlib.Omega.{arith}
+use lib.ListN.{length, take, drop}
 use borrow.Author.Needs.{needs}
-use borrow.Author.Tests.{ne-eqb}
 use Rattle.site.specs.Values.{standRule}
+use Rattle.site.proofs.BoundsLaw.{entry-bounds}
+use Rattle.site.proofs.StandLaws.{restRule, rest-start, rest-end, rest-next, rest-stop}
 use Rattle.site.proofs.stand.stand_rule.Statement.{statement}
 use Rattle.site.proofs.stand.stand_rule.Tie as tie
 
-entries-ranged-requires : tie.Need-entries-ranged-requires
-entries-ranged-requires c κs = search needs
+abbrev Inv-loop : tie.InvT-loop
+Inv-loop n stand count seen₀ i₀ seen i =
+    (i ≤ count) × (seen .shares ≤ 100 * i) × (standRule (take n stand) ≡ restRule seen (drop i (take n stand)))
 
-species-rise-requires : tie.Need-species-rise-requires
-species-rise-requires c κs = search needs
+abbrev μ-loop : tie.MeasureT-loop
+μ-loop n stand count seen₀ i₀ seen i = count - i
 
-share-sum-requires : tie.Need-share-sum-requires
-share-sum-requires c κs = search needs
+-- what the loop reads is one of the first n
+inside : (c : tie.In-loop Inv-loop μ-loop)
+    → let a = c .before .before .before .args in c .before .loop .i < min (a .n) (length (a .t1))
+inside c = let z : length (c .before .before .before .args .t1) ≡ 4 = search needs in omega arith
 
-returns : tie.Need-returns
-unfolding standRule
+part-len-requires : tie.Need-part-len-requires Inv-loop μ-loop
+part-len-requires c κs = search needs
+
+loop-holds : tie.Need-loop-holds Inv-loop μ-loop
+loop-holds c = (search needs, search needs, rest-start _)
+
+mul-e : tie.Need-mul-e Inv-loop μ-loop
+mul-e c = search needs
+
+array-copy-out-e : tie.Need-array-copy-out-e Inv-loop μ-loop
+array-copy-out-e c = search needs
+
+entry-ranged-requires : tie.Need-entry-ranged-requires Inv-loop μ-loop
+entry-ranged-requires c κs = search needs
+
+with-entry-requires : tie.Need-with-entry-requires Inv-loop μ-loop
+with-entry-requires c κs = search needs
+
+add-i : tie.Need-add-i Inv-loop μ-loop
+add-i c = search needs
+
+loop-less : tie.Need-loop-less Inv-loop μ-loop
+loop-less c = search needs
+
+loop-again : tie.Need-loop-again Inv-loop μ-loop
+loop-again c =
+    let r = c .before .before .before .before in
+    let ranged = sym (c .before .before .entry-ranged .ensures) ∙ c .before .if1 .taken in
+    let rest = r .before .loop .inv .2 ∙ rest-next _ _ _ _ (inside r) ranged in
+    (search needs, rw (c .with-entry .ensures) (omega (arith, entry-bounds _ ranged .share)), rw (c .with-entry .ensures) rest)
+
+returns : tie.Need-returns Inv-loop μ-loop
 returns c =
-    let r = c .before .before .before .before .before in
-    rw (
-      sym (r .entries-ranged .ensures) ∙ c .before .before .before .before .if1 .taken,
-      sym (c .before .before .before .species-rise .ensures) ∙ c .before .before .if2 .taken,
-      sym (c .before .share-sum .ensures) ∙ c .if3 .taken,
-    )
+    let r = c .before .before .before in
+    sym (r .before .loop .inv .2 ∙ rest-stop _ _ _ _ (inside r) (sym (c .before .entry-ranged .ensures) ∙ c .if1 .left))
 
-returns-2 : tie.Need-returns-2
-unfolding standRule
+seen-rule-requires : tie.Need-seen-rule-requires Inv-loop μ-loop
+seen-rule-requires c κs = search needs
+
+returns-2 : tie.Need-returns-2 Inv-loop μ-loop
 returns-2 c =
-    let r = c .before .before .before .before .before in
-    rw (
-      sym (r .entries-ranged .ensures) ∙ c .before .before .before .before .if1 .taken,
-      sym (c .before .before .before .species-rise .ensures) ∙ c .before .before .if2 .taken,
-      sym (c .before .share-sum .ensures),
-      ne-eqb _ _ (c .if3 .left),
-    )
-
-returns-3 : tie.Need-returns-3
-unfolding standRule
-returns-3 c = rw (sym (c .before .before .before .entries-ranged .ensures) ∙ c .before .before .if1 .taken, sym (c .before .species-rise .ensures) ∙ c .if2 .left)
-
-returns-4 : tie.Need-returns-4
-unfolding standRule
-returns-4 c = rw (sym (c .before .entries-ranged .ensures) ∙ c .if1 .left)
+    let r = c .before .before in
+    let a = r .before .before .args in
+    let z : length (a .t1) ≡ 4 = search needs in
+    let h : min (a .n) (length (a .t1)) ≤ r .loop .i = omega arith in
+    c .seen-rule .ensures ∙ sym (r .loop .inv .2 ∙ rest-end _ _ _ _ h)
 
 pub stand-rule-spec : {M : Type 1} → statement M
 stand-rule-spec =
     tie.close
     (tie.spec
-    entries-ranged-requires
-    species-rise-requires
-    share-sum-requires
+    Inv-loop
+    μ-loop
+    part-len-requires
+    loop-holds
+    mul-e
+    array-copy-out-e
+    entry-ranged-requires
+    with-entry-requires
+    add-i
+    loop-less
+    loop-again
     returns
-    returns-2
-    returns-3
-    returns-4)
+    seen-rule-requires
+    returns-2)

@@ -1,7 +1,6 @@
 use mathlib.Core.Path.{sym}
 use borrow.Author.Needs.{needs}
 use Rattle.site.specs.Values.{valueRule}
-use Rattle.site.proofs.Passing.{with-number}
 use Rattle.site.proofs.MatchLaws.{none-below}
 use Rattle.site.proofs.FieldLaws.{value-none}
 use Rattle.site.proofs.value.field_rule.Statement.{statement}
@@ -51,62 +50,62 @@ leachate-rule-requires c κs = search needs
 
 returns : tie.Need-returns
 unfolding valueRule
-returns c = with-number _ _ (rw (c .before .before .match .keys1) (c .name-rule .ensures))
+returns c = rw (c .before .before .match .keys1) (c .name-rule .ensures)
 
 returns-2 : tie.Need-returns-2
 unfolding valueRule
-returns-2 c = with-number _ _ (rw (c .before .match .keys2) (c .parent-rule .ensures))
+returns-2 c = rw (c .before .match .keys2) (c .parent-rule .ensures)
 
 returns-3 : tie.Need-returns-3
 unfolding valueRule
-returns-3 c = with-number _ _ (rw (c .before .match .keys3) (c .texture-rule .ensures))
+returns-3 c = rw (c .before .match .keys3) (c .texture-rule .ensures)
 
 returns-4 : tie.Need-returns-4
 unfolding valueRule
-returns-4 c = with-number _ _ (rw (c .before .match .keys4) (c .depth-rule .ensures))
+returns-4 c = rw (c .before .match .keys4) (c .depth-rule .ensures)
 
 returns-5 : tie.Need-returns-5
 unfolding valueRule
-returns-5 c = with-number _ _ (rw (c .before .match .keys5) (c .drainage-rule .ensures))
+returns-5 c = rw (c .before .match .keys5) (c .drainage-rule .ensures)
 
 returns-6 : tie.Need-returns-6
 unfolding valueRule
-returns-6 c = with-number _ _ (rw (c .before .match .keys6) (c .percolation-rule .ensures))
+returns-6 c = rw (c .before .match .keys6) (c .percolation-rule .ensures)
 
 returns-7 : tie.Need-returns-7
 unfolding valueRule
-returns-7 c = with-number _ _ (rw (c .before .before .match .keys7) (c .stand-rule .ensures))
+returns-7 c = rw (c .before .before .match .keys7) (c .stand-rule .ensures)
 
 returns-8 : tie.Need-returns-8
 unfolding valueRule
-returns-8 c = with-number _ _ (rw (c .before .match .keys8) (c .immobilisation-rule .ensures))
+returns-8 c = rw (c .before .match .keys8) (c .immobilisation-rule .ensures)
 
 returns-9 : tie.Need-returns-9
 unfolding valueRule
-returns-9 c = with-number _ _ (rw (c .before .match .keys9) (c .available-rule .ensures))
+returns-9 c = rw (c .before .match .keys9) (c .available-rule .ensures)
 
 returns-10 : tie.Need-returns-10
 unfolding valueRule
-returns-10 c = with-number _ _ (rw (c .before .match .keys10) (c .base-deposition-rule .ensures))
+returns-10 c = rw (c .before .match .keys10) (c .base-deposition-rule .ensures)
 
 returns-11 : tie.Need-returns-11
 unfolding valueRule
-returns-11 c = with-number _ _ (rw (c .before .match .keys11) (c .ratio-rule .ensures))
+returns-11 c = rw (c .before .match .keys11) (c .ratio-rule .ensures)
 
 returns-12 : tie.Need-returns-12
 unfolding valueRule
-returns-12 c = with-number _ _ (rw (c .before .match .keys12) (c .gibbsite-rule .ensures))
+returns-12 c = rw (c .before .match .keys12) (c .gibbsite-rule .ensures)
 
 returns-13 : tie.Need-returns-13
 unfolding valueRule
-returns-13 c = with-number _ _ (rw (c .before .match .keys13) (c .ceiling-rule .ensures))
+returns-13 c = rw (c .before .match .keys13) (c .ceiling-rule .ensures)
 
 returns-14 : tie.Need-returns-14
 unfolding valueRule
-returns-14 c = with-number _ _ (rw (c .before .match .keys14) (c .leachate-rule .ensures))
+returns-14 c = rw (c .before .match .keys14) (c .leachate-rule .ensures)
 
 returns-15 : tie.Need-returns-15
-returns-15 c = with-number _ _ (sym (value-none _ _ (none-below 14 (c .before .args .tag) (c .match .rest))))
+returns-15 c = sym (value-none _ _ (none-below 14 (c .before .args .tag) (c .match .rest)))
 
 pub field-rule-spec : {M : Type 1} → statement M
 field-rule-spec =

@@ -1,0 +1,91 @@
+-- The check of a site value, or of a field of it, gives no other rule than 7 to 10: a test of the rule, which holds of every branch.
+use mathlib.Core.Path.{_≡_, refl, ap, _∙_}
+use mathlib.Core.Logic.{_⊎_, inl, inr}
+use mathlib.Core.Bool.{Bool, true, false, _&&_}
+use mathlib.Core.List.{List, [], _∷_}
+use Prim.Native.Nat.{ℕ, _≤_}
+use lib.Dec.{leb, eqb}
+use borrow.Author.Tests.{leb-true}
+use Rattle.site.specs.declared.Site.{Site}
+use Rattle.site.specs.declared.Entry.{Entry}
+use Rattle.site.specs.declared.Rule.the-variants.{BadLength, OutOfRange, SharesNotWhole}
+use Rattle.site.specs.declared.Checked.{Checked}
+use Rattle.site.specs.declared.Checked.the-variants.{Passed, Broken}
+use Rattle.site.specs.Choice.{pick}
+use Rattle.site.specs.Refusal.{ruleNumber, checkedNumber, Numbered, andThen}
+use Rattle.site.specs.Ranges.{Range}
+use Rattle.site.specs.Values.{itemsOf, itemCount, countRule, ranged, inside, between, entryRanged, risingFrom, sharesOf, orderRule, standRule, valueRules, valueRule, allOf}
+use Rattle.site.specs.Check.{fieldsRule, siteRule}
+use Rattle.site.proofs.Tests.{and-l, and-r}
+use Rattle.site.proofs.PartLaws.{all-getD}
+
+unfoldable pub known : Checked → Bool
+known Passed = true
+known (Broken r) = leb 7 (ruleNumber r) && leb (ruleNumber r) 10
+
+no-other : (c : Checked) → known c ≡ true → (checkedNumber c ≡ 0) ⊎ ((7 ≤ checkedNumber c) × (checkedNumber c ≤ 10))
+unfolding known checkedNumber
+no-other Passed e = inl refl
+no-other (Broken r) e =
+    let n = ruleNumber r in
+    inr (leb-true 7 n (and-l (leb 7 n) (leb n 10) e), leb-true n 10 (and-r (leb 7 n) (leb n 10) e))
+
+pub numbered : (a b : Checked) → a ≡ b → known b ≡ true → Numbered b (checkedNumber a)
+unfolding checkedNumber
+numbered a b e k = record {
+  passed = λ p. ap checkedNumber (e ∙ p);
+  bad-length = λ p. ap checkedNumber (e ∙ p);
+  out-of-range = λ p. ap checkedNumber (e ∙ p);
+  not-rising = λ p. ap checkedNumber (e ∙ p);
+  shares-not-whole = λ p. ap checkedNumber (e ∙ p);
+  no-other = rw e (no-other b k);
+}
+
+pub known-pick : (t : Bool) (a b : Checked) → known a ≡ true → known b ≡ true → known (pick t a b) ≡ true
+known-pick true a b p q = p
+known-pick false a b p q = q
+
+known-then : (a b : Checked) → known a ≡ true → known b ≡ true → known (andThen a b) ≡ true
+unfolding andThen
+known-then Passed b p q = q
+known-then (Broken r) b p q = p
+
+known-passed : known Passed ≡ true
+unfolding known
+known-passed = refl
+
+known-ranged : (t : Bool) → known (ranged t) ≡ true
+unfolding known
+known-ranged t = known-pick t Passed (Broken OutOfRange) refl refl
+
+known-between : (r : Range) (x : ℕ) → known (between r x) ≡ true
+unfolding between
+known-between r x = known-ranged (inside r x)
+
+known-order : (rising : Bool) (shares : ℕ) → known (orderRule rising shares) ≡ true
+unfolding known
+known-order true shares = known-pick (eqb shares 100) Passed (Broken SharesNotWhole) refl refl
+known-order false shares = refl
+
+known-stand : (es : List Entry) → known (standRule es) ≡ true
+unfolding standRule known
+known-stand es =
+    let order = orderRule (risingFrom 0 es) (sharesOf es) in
+    known-pick (allOf entryRanged es) order (Broken OutOfRange) (known-order (risingFrom 0 es) (sharesOf es)) refl
+
+known-count : (t : ℕ) (s : Site) → known (countRule t s) ≡ true
+unfolding countRule known
+known-count t s = known-pick (leb 1 (itemCount t s) && leb (itemCount t s) (itemsOf t .most)) Passed (Broken BadLength) refl refl
+
+pub known-value : (t : ℕ) (s : Site) → known (valueRule t s) ≡ true
+unfolding valueRule allOf
+known-value t s = all-getD known (valueRules s) t Passed known-passed (simp (known-passed, known-ranged, known-between, known-stand))
+
+known-fields : (ts : List ℕ) (s : Site) → known (fieldsRule ts s) ≡ true
+unfolding fieldsRule
+known-fields [] s = known-passed
+known-fields (t ∷ ts) s = known-then _ _ (known-then _ _ (known-count t s) (known-value t s)) (known-fields ts s)
+
+pub known-site : (s : Site) → known (siteRule s) ≡ true
+unfolding siteRule
+known-site s = known-fields _ s
