@@ -1,9 +1,9 @@
 -- A result below 2³² is a count and any other a refusal, since no count reaches 2³² and every rule has a number from 1 on.
-use Prim.Native.Nat.{ℕ, _*_, _≤_, _<_}
-use mathlib.Core.Path.{_≡_, refl, ap, _∙_}
+use Prim.Native.Nat.{ℕ, _≤_, _<_}
+use mathlib.Core.Path.{_≡_, refl, _∙_}
 use mathlib.Core.List.{List, [], _∷_}
 use native.Mathlib.Omega.{arith}
-use native.Mathlib.Nat.{mul-le-mul-right, mod-eq-of-lt}
+use native.Mathlib.Nat.{mod-eq-of-lt}
 use lib.ListN.{length, getD}
 use Rattle.field.specs.Field.{tabulate}
 use Rattle.field.proofs.TabulateLaws.{tabulate-getD}

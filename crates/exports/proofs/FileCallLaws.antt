@@ -1,18 +1,17 @@
 -- What the listing and the report of a file tell C.
-use Prim.Native.Nat.{ℕ, _*_, _≤_, _<_}
-use mathlib.Core.Path.{_≡_, sym, ap, _∙_}
+use Prim.Native.Nat.{ℕ, _≤_, _<_}
+use mathlib.Core.Path.{_≡_, ap, _∙_}
 use mathlib.Core.List.{List}
 use native.Mathlib.Omega.{arith}
 use lib.ListN.{length, take}
 use Rattle.site.specs.declared.Rule.{Rule}
-use Rattle.output.specs.Output.{held}
 use Rattle.text.specs.declared.Listed.{Listed}
 use Rattle.text.specs.declared.Listed.the-variants.{Count, Refused}
 use Rattle.text.specs.TextLengths.{mostText}
 use Rattle.text.specs.TextAnswer.{textAnswer}
 use Rattle.text.proofs.TextAnswers.{count-is, refused-at-0}
 use Rattle.record.specs.File.{contents}
-use Rattle.listing.specs.Reports.{listAnswer, listHeld, reportOf}
+use Rattle.listing.specs.Reports.{listAnswer, reportOf}
 use Rattle.listing.specs.PrintedDemand3.{Demand3, Written3}
 use Rattle.listing.proofs.ListLaws.{list-fault-near}
 use Rattle.exports.specs.Results.{codeBase, listedCode, Told}

@@ -11,7 +11,7 @@ use Rattle.loads.specs.Supply.{baseSupply, aluminiumLimit}
 use Rattle.loads.specs.Nitrogen.{denitrified, undenitrifiedOf, undenitrified, leaching}
 use Rattle.loads.specs.SiteTerms.{termsOf}
 use Rattle.loads.specs.CriticalLoads.{maxS, minN, nutN}
-use Rattle.loads.specs.Example.{a1}
+use Rattle.site.specs.ExampleSite.{a1}
 use Rattle.judgement.specs.Regions.{regionNumber, D, excess, regionOf, acidIn, acidOf}
 use Rattle.judgement.specs.Verdicts.{region, acidExceedance, nutrientExceedance}
 

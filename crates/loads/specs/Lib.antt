@@ -11,4 +11,4 @@ pub mod Hydrogen
 pub mod CriticalLoads
 pub mod OneSite
 pub mod LoadsConditions
-pub mod Example
+pub mod ExampleTerms

@@ -1,9 +1,9 @@
 -- Reading stops at the first fault from the left: a step that is no fault is one more that is accepted.
-use Prim.Native.Nat.{ℕ, zero, suc, _+_, _*_, _≤_, _<_}
+use Prim.Native.Nat.{ℕ, zero, suc, _+_, _*_, _≤_}
 use mathlib.Core.Bool.{Bool, true, false}
 use mathlib.Core.Path.{_≡_, refl, sym, ap, _∙_}
 use mathlib.Core.Logic.{_⊎_, inl, inr, ⊎-elim}
-use mathlib.Core.List.{List, [], _∷_, _++_}
+use mathlib.Core.List.{List, [], _∷_}
 use native.Mathlib.Omega.{arith}
 use native.Mathlib.Nat.{mul-le-mul-left}
 use borrow.Author.Tests.{eqb-false, leb-true, leb-false}
@@ -22,7 +22,7 @@ use Rattle.record.specs.FieldParts.{statedLen, valueAt, restAt}
 use Rattle.record.specs.Fields.{headRule, walkFields, fieldsIn}
 use Rattle.record.specs.Records.{mostRecord, outerRule, ending, recordIn}
 use Rattle.record.specs.File.{Contents, first, onto, walkFile, contentsBy}
-use Rattle.record.specs.FirstFault.{FieldsAccepted, none, next, DueBroken, BytesLeft, FirstField, OuterBroken, InnerBroken, RecordsAccepted, RecordBroken, OneTooMany, FirstFault}
+use Rattle.record.specs.FirstFault.{FieldsAccepted, none, next, FirstField, OuterBroken, InnerBroken, RecordsAccepted, RecordBroken, OneTooMany, FirstFault}
 use Rattle.record.proofs.WalkLaws.{head-passed}
 use Rattle.record.proofs.RecordLaws.{outer-passed}
 

@@ -12,4 +12,4 @@ pub mod Place
 pub mod SiteFile
 pub mod RoundTrip
 pub mod RecordWritten
-pub mod Example
+pub mod ExampleRecord

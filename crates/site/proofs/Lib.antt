@@ -9,3 +9,4 @@ pub mod FieldLaws
 pub mod NumberLaws
 pub mod BoundsLaw
 pub mod ByCheckLaws
+pub mod FirstBrokenLaws

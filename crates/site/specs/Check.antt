@@ -1,9 +1,11 @@
 -- The check of a site value: rules 7 to 10, by the tags in order.
 use Prim.Native.Nat.{ℕ}
-use mathlib.Core.List.{List, [], _∷_}
+use mathlib.Core.Path.{_≡_}
+use mathlib.Core.List.{List, [], _∷_, _++_}
 use Rattle.site.specs.declared.Site.{Site}
+use Rattle.site.specs.declared.Rule.{Rule}
 use Rattle.site.specs.declared.Checked.{Checked}
-use Rattle.site.specs.declared.Checked.the-variants.{Passed}
+use Rattle.site.specs.declared.Checked.the-variants.{Passed, Broken}
 use Rattle.site.specs.Refusal.{andThen}
 use Rattle.site.specs.Values.{due, countRule, valueRule}
 
@@ -14,3 +16,12 @@ fieldsRule (t ∷ ts) s = andThen (andThen (countRule t s) (valueRule t s)) (fie
 
 unfoldable pub siteRule : Site → Checked
 siteRule s = fieldsRule due s
+
+-- the first field with a broken rule: those before it pass, and its own first broken rule is r
+pub record FirstBroken (ts : List ℕ) (s : Site) (r : Rule) : Type 0 where
+  pub before : List ℕ
+  pub tag : ℕ
+  pub later : List ℕ
+  pub due : ts ≡ before ++ tag ∷ later
+  pub passed : fieldsRule before s ≡ Passed
+  pub broken : andThen (countRule tag s) (valueRule tag s) ≡ Broken r

@@ -1,6 +1,5 @@
 -- What a call answers that writes a text into a lent buffer.
-use Prim.Native.Nat.{ℕ, _≤_}
-use mathlib.Core.Path.{_≡_}
+use Prim.Native.Nat.{ℕ}
 use mathlib.Core.List.{List}
 use lib.ListN.{length}
 use Rattle.site.specs.Refusal.{ruleNumber}

@@ -1,8 +1,6 @@
-use Prim.Native.Nat.{_+_, _≤_}
 use mathlib.Core.Path.{_≡_}
 use native.Mathlib.Omega.{arith}
 use lib.ListN.{length}
-use denote.Ref.{now}
 use borrow.Author.Needs.{needs}
 use Rattle.field.specs.Field.{value}
 use Rattle.record.specs.FieldParts.{fieldOf}

@@ -1,15 +1,13 @@
-use Prim.Native.Nat.{_+_, _-_, _≤_}
-use mathlib.Core.Path.{_≡_, refl, sym, ap}
+use Prim.Native.Nat.{_-_, _≤_}
+use mathlib.Core.Path.{_≡_, refl}
 use native.Mathlib.Omega.{arith}
 use lib.ListN.{length, getD, take}
-use lib.Seq.{take-all}
 use borrow.Author.Needs.{needs}
 use Rattle.site.specs.Values.{due}
 use Rattle.field.specs.Field.{siteKind}
 use Rattle.output.specs.Writing.{Wrote, each}
 use Rattle.output.proofs.WritingLaws.{nothing, then, room, kept}
 use Rattle.output.proofs.EachLaws.{each-more, each-fits}
-use Rattle.record.specs.Fields.{encodeFields}
 use Rattle.record.proofs.EncodeLaws.{fieldAt, fields-each}
 use Rattle.record.proofs.put.put_fields.Statement.{statement}
 use Rattle.record.proofs.put.put_fields.Tie as tie

@@ -1,6 +1,5 @@
 use native.Mathlib.Omega.{arith}
 use lib.ListN.{length-set}
-use denote.Ref.{now}
 use borrow.Author.Needs.{needs}
 use Rattle.output.proofs.WritingLaws.{stored, and-stored, ending}
 use Rattle.record.proofs.put.put_head.Statement.{statement}

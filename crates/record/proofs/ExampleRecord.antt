@@ -2,9 +2,7 @@
 use mathlib.Core.Path.{_≡_, refl}
 use mathlib.Core.List.{List, [], _∷_}
 use Prim.Native.Nat.{ℕ}
-use Rattle.site.specs.declared.Site.{Site}
-use Rattle.site.specs.declared.Entry.{Entry}
-use Rattle.site.specs.Bounds.{noEntry}
+use Rattle.site.specs.ExampleSite.{a1}
 use Rattle.field.specs.Field.{tabulate, entryAt, store, entriesBytes, blankSite, value}
 use Rattle.field.specs.Kind.{fieldRule}
 use Rattle.site.specs.Values.{lengthPermitted, valueRule, standRule, between, nameByte, allOf, entryRanged, risingFrom, sharesOf}
@@ -36,36 +34,10 @@ bytesA1 =
     ∷ 15 ∷ 0 ∷ 4 ∷ 1 ∷ 244 ∷ 2 ∷ 188
     ∷ []
 
-abbrev pine : Entry
-pine = record { species = 0; share = 100; «yield_kg» = 2000 }
-
-abbrev siteA1 : Site
-siteA1 = record {
-  name = 65 ∷ 49 ∷ 0 ∷ 0 ∷ 0 ∷ 0 ∷ 0 ∷ 0 ∷ [];
-  «name_len» = 2;
-  parent = 1;
-  clay = 10;
-  sand = 65;
-  depth = 50;
-  drainage = 1;
-  percolation = 200;
-  stand = pine ∷ noEntry ∷ noEntry ∷ noEntry ∷ [];
-  entries = 1;
-  immobilisation = 50;
-  available = 80;
-  «base_deposition» = 300;
-  ratio = 1000;
-  gibbsite = 3000;
-  ceiling = 1000;
-  leachate = 20;
-  sulphur = 500;
-  nitrogen = 700;
-}
-
-pub a1-read : readRecord bytesA1 ≡ accepted siteA1
+pub a1-read : readRecord bytesA1 ≡ accepted a1
 unfolding readRecord readOf single onlyOne siteAt recordIn ending outerRule headRule unless walkFields fieldRule accepted lengthPermitted tabulate entryAt store valueRule standRule between nameByte allOf entryRanged risingFrom sharesOf blankSite
 a1-read = refl
 
-pub a1-written : encode siteA1 ≡ bytesA1
+pub a1-written : encode a1 ≡ bytesA1
 unfolding encodeAs encodeFields fieldOf value entriesBytes
 a1-written = refl

@@ -1,12 +1,7 @@
--- Site A1 of document 01, and the values it gives for it.
+-- The values that document 01 gives for site A1.
 use mathlib.Core.Path.{_≡_, refl}
 use mathlib.Core.List.{[], _∷_}
-use Rattle.site.specs.declared.Site.{Site}
-use Rattle.site.specs.declared.Checked.the-variants.{Passed}
-use Rattle.site.specs.Bounds.{noEntry}
-use Rattle.site.specs.Refusal.{andThen}
-use Rattle.site.specs.Values.{itemCount, countRule, nameByte, allOf, between, entryRanged, risingFrom, sharesOf, standRule, valueRule}
-use Rattle.site.specs.Check.{fieldsRule, siteRule}
+use Rattle.site.specs.ExampleSite.{a1}
 use Rattle.loads.specs.Rounding.{up}
 use Rattle.loads.specs.Texture.{textureOf}
 use Rattle.loads.specs.Weathering.{classOf, weatheringOf, weathering, availableWeathering}
@@ -17,34 +12,6 @@ use Rattle.loads.specs.Nitrogen.{denitrified, undenitrifiedOf, undenitri
 use Rattle.loads.specs.Terms.{Terms}
 use Rattle.loads.specs.SiteTerms.{termsOf}
 use Rattle.loads.specs.CriticalLoads.{maxS, minN, maxN, nutN}
-
-abbrev pub a1 : Site
-a1 = record {
-  name = 65 ∷ 49 ∷ 0 ∷ 0 ∷ 0 ∷ 0 ∷ 0 ∷ 0 ∷ [];
-  «name_len» = 2;
-  parent = 1;
-  clay = 10;
-  sand = 65;
-  depth = 50;
-  drainage = 1;
-  percolation = 200;
-  stand = record { species = 0; share = 100; «yield_kg» = 2000 } ∷ noEntry ∷ noEntry ∷ noEntry ∷ [];
-  entries = 1;
-  immobilisation = 50;
-  available = 80;
-  «base_deposition» = 300;
-  ratio = 1000;
-  gibbsite = 3000;
-  ceiling = 1000;
-  leachate = 20;
-  sulphur = 500;
-  nitrogen = 700;
-}
-
--- A1 passes the check
-passes : siteRule a1 ≡ Passed
-unfolding siteRule fieldsRule andThen itemCount countRule nameByte allOf between entryRanged risingFrom sharesOf standRule valueRule
-passes = refl
 
 abbrev t1 : Terms
 t1 = termsOf a1
