@@ -13,10 +13,9 @@ use Rattle.text.specs.declared.Listed.the-variants.{Count, Refused}
 use Rattle.text.specs.TextLengths.{mostText}
 use Rattle.text.specs.Listing.{listing}
 use Rattle.text.specs.RefusalLine.{refusal}
-use Rattle.output.specs.Output.{heldNumbers, held}
-use Rattle.text.specs.TextAnswer.{listedNumbers, textAnswer}
+use Rattle.text.specs.TextAnswer.{listedNumbers}
 use Rattle.text.specs.Marks.{Marked}
-use Rattle.text.proofs.TextAnswers.{Answered, count-is, refused-at-0, written}
+use Rattle.text.proofs.TextAnswers.{Answered, Clauses, clauses-then, by-clauses, by-clauses-then, count-is, refused-at-0, written}
 use Rattle.listing.specs.declared.Walked.{Walked}
 use Rattle.record.specs.Result.{good, fault}
 use Rattle.record.specs.File.{Contents, contents}
@@ -56,32 +55,30 @@ found-fault c is e = walked-fault c (rw is at e)
 
 -- what a call has written of the rows, by the sites
 pub by-sites : {w : Walked} {c : Contents Site} (x : Filled w c) (d : List ℕ) {e : List ℕ} {r : Listed}
-    → (r ≡ textAnswer (listing (take (w .count) (w .rows))) d)
-    × ((e ≡ held (listing (take (w .count) (w .rows))) d)
-    × ((listedNumbers r ≡ heldNumbers (listing (take (w .count) (w .rows))) d) × ((length (listing (take (w .count) (w .rows))) ≤ mostText) × Marked (take (w .count) (w .rows)) e r)))
+    → Clauses mostText (listing (take (w .count) (w .rows))) d e r ((length (listing (take (w .count) (w .rows))) ≤ mostText) × Marked (take (w .count) (w .rows)) e r)
     → Answered mostText (listing (map rowOf (x .ss))) d e r
-by-sites x d p = rw (← x .rows) (p .0, (p .1 .0, (p .1 .1 .0, p .1 .1 .1 .0)))
+by-sites x d p = rw (← x .rows) (by-clauses-then p)
 
 -- ---- the listing
 
 -- the clauses of the call that lists
-abbrev Clauses : List ℕ → List ℕ → List ℕ → Listed → Type 0
-Clauses f d e r =
+abbrev ListClauses : List ℕ → List ℕ → List ℕ → Listed → Type 0
+ListClauses f d e r =
     (r ≡ listAnswer (contents f) d) × ((e ≡ listHeld (contents f) d) × ((listedNumbers r ≡ listNumbers (contents f) d) × (((n : ℕ) → r ≡ Count n → n ≤ mostText) × Written3 f e r)))
 
 written3 : (f d : List ℕ) {e : List ℕ} {r : Listed} (ss : List Site) → contents f ≡ good ss → Answered mostText (listing (map rowOf ss)) d e r → Written3 f e r
 written3 f d {e} {r} ss h a n b ts g =
     let same : ss ≡ ts = cc in
-    rw (written (listing (map rowOf ss)) d e r (a .0) (a .1 .0) n b, same) (listing-says f ts g)
+    rw (written (listing (map rowOf ss)) d e r (a .answer) (a .buffer) n b, same) (listing-says f ts g)
 
 counted : (ss : List Site) (d : List ℕ) {e : List ℕ} {r : Listed} → Answered mostText (listing (map rowOf ss)) d e r → (n : ℕ) → r ≡ Count n → n ≤ mostText
-counted ss d {e} {r} a n b = omega (arith, count-is (listing (map rowOf ss)) d r (a .0) n b, a .1 .1 .1)
+counted ss d {e} {r} a n b = omega (arith, count-is (listing (map rowOf ss)) d r (a .answer) n b, a .enough)
 
-pub listed-sites : (f d : List ℕ) {e : List ℕ} {r : Listed} (ss : List Site) → contents f ≡ good ss → Answered mostText (listing (map rowOf ss)) d e r → Clauses f d e r
+pub listed-sites : (f d : List ℕ) {e : List ℕ} {r : Listed} (ss : List Site) → contents f ≡ good ss → Answered mostText (listing (map rowOf ss)) d e r → ListClauses f d e r
 unfolding listAnswer listHeld listNumbers
-listed-sites f d ss h a = (rw h (a .0), (rw h (a .1 .0), (rw h (a .1 .1 .0), (counted ss d a, written3 f d ss h a))))
+listed-sites f d ss h a = (rw h (a .answer), (rw h (a .buffer), (rw h (a .numbers), (counted ss d a, written3 f d ss h a))))
 
-pub listed-fault : (f d : List ℕ) {rule : Rule} {at : ℕ} → contents f ≡ fault rule at → Clauses f d d (Refused rule at)
+pub listed-fault : (f d : List ℕ) {rule : Rule} {at : ℕ} → contents f ≡ fault rule at → ListClauses f d d (Refused rule at)
 unfolding listAnswer listHeld listNumbers listedNumbers
 listed-fault f d h = (rw h, (rw h, (rw h, (λ n b. let z : _≡_ {A = ℕ} 0 1 = cc in absurd (omega arith), λ n b. let z : _≡_ {A = ℕ} 0 1 = cc in absurd (omega arith)))))
 
@@ -98,21 +95,15 @@ list-fault-near f d {rule} {at} e = by-contents (contents f) refl e
 
 -- the clauses of the call that reports
 abbrev pub Reported : List ℕ → List ℕ → List ℕ → Listed → Type 0
-Reported f d e r =
-    (r ≡ textAnswer (reportOf f) d)
-    × ((e ≡ held (reportOf f) d) × ((listedNumbers r ≡ heldNumbers (reportOf f) d) × ((length (reportOf f) ≤ mostText) × Written3 f e r)))
+Reported f d e r = Clauses mostText (reportOf f) d e r ((length (reportOf f) ≤ mostText) × Written3 f e r)
 
 reported : (f d : List ℕ) {e : List ℕ} {r : Listed} → Answered mostText (reportOf f) d e r → Written3 f e r → Reported f d e r
-reported f d a w = (a .0, (a .1 .0, (a .1 .1 .0, (a .1 .1 .1, w))))
+reported f d a w = clauses-then a w
 
 pub reported-sites : (f d : List ℕ) {e : List ℕ} {r : Listed} (ss : List Site) → contents f ≡ good ss → Answered mostText (listing (map rowOf ss)) d e r → Reported f d e r
 unfolding reportOf printed
 reported-sites f d ss h a = reported f d (rw h a) (written3 f d ss h a)
 
-pub reported-fault : (f d : List ℕ) {e : List ℕ} {r : Listed} {rule : Rule} {at : ℕ} → contents f ≡ fault rule at → Answered mostText (refusal rule at) d e r → Reported f d e r
+pub reported-fault : (f d : List ℕ) {e : List ℕ} {r : Listed} {rule : Rule} {at : ℕ} → contents f ≡ fault rule at → Clauses mostText (refusal rule at) d e r (length (refusal rule at) ≤ mostText) → Reported f d e r
 unfolding reportOf printed
-reported-fault f d h a = reported f d (rw h a) (λ n b ss g. not-good (sym h ∙ g))
-
--- the part that says nothing of the balances
-pub as-answered : (f d : List ℕ) {e : List ℕ} {r : Listed} → Reported f d e r → Answered mostText (reportOf f) d e r
-as-answered f d a = (a .0, (a .1 .0, (a .1 .1 .0, a .1 .1 .1 .0)))
+reported-fault f d h a = reported f d (rw h (by-clauses a)) (λ n b ss g. not-good (sym h ∙ g))

@@ -27,16 +27,16 @@ unfolding answerIf heldAfter outputCount
 shown-some text d {e} {r} k b a = go (roomRule (length text) (length d)) refl
   where
     shows : take k e ≡ text
-    shows = written text d e r (a .0) (a .1 .0) k b
+    shows = written text d e r (a .answer) (a .buffer) k b
 
     go : (t : Checked) → roomRule (length text) (length d) ≡ t → Shown text d e k
     go Passed t =
-        let a′ : r ≡ Count (length text) = rw t at (a .0) in
-        let h′ : e ≡ text ++ drop (length text) d = rw t at (a .1 .0) in
+        let a′ : r ≡ Count (length text) = rw t at (a .answer) in
+        let h′ : e ≡ text ++ drop (length text) d = rw t at (a .buffer) in
         let n : k ≡ length text = cc in
-        ((omega (arith, ap length h′, length-append text (drop (length text) d)), n ∙ sym (ap length shows)), (rw t n, (a .1 .0, λ m. shows)))
+        ((omega (arith, ap length h′, length-append text (drop (length text) d)), n ∙ sym (ap length shows)), (rw t n, (a .buffer, λ m. shows)))
     go (Broken x) t =
-        let a′ : r ≡ Refused x 0 = rw t at (a .0) in
+        let a′ : r ≡ Refused x 0 = rw t at (a .answer) in
         let z : _≡_ {A = ℕ} 0 1 = cc in
         absurd (omega arith)
 
@@ -48,5 +48,5 @@ shown-none text d {e} {r} b a = go (roomRule (length text) (length d)) refl
     clash q = let z : _≡_ {A = ℕ} 0 1 = cc in absurd (omega arith)
 
     go : (t : Checked) → roomRule (length text) (length d) ≡ t → Shown text d e 0
-    go Passed t = clash (rw t at (a .0))
-    go (Broken x) t = ((omega arith, refl), (rw t, (a .1 .0, λ m. absurd (omega (arith, room-missing (length text) (length d) t, a .1 .1 .1)))))
+    go Passed t = clash (rw t at (a .answer))
+    go (Broken x) t = ((omega arith, refl), (rw t, (a .buffer, λ m. absurd (omega (arith, room-missing (length text) (length d) t, a .enough)))))

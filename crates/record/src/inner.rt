@@ -65,8 +65,8 @@ pub fn read_fields(part: &[u8], base: usize) -> Read
         }
         site = x.site;
         rest = &rest[end..];
-        at = at + end;
-        k = k + 1;
+        at += end;
+        k += 1;
     }
     if rest.len() == 0 {
         let outcome = Outcome::Accepted;

@@ -43,7 +43,7 @@ pub fn put_fields(buf: &mut [u8], at: usize, site: Site) -> usize
     while k < 15 {
         let tag = due_tag(k);
         o = put_field(buf, o, site, tag);
-        k = k + 1;
+        k += 1;
     }
     o
 }

@@ -16,11 +16,9 @@ use Rattle.output.specs.Writing.{each}
 use Rattle.judgement.specs.Verdicts.{verdictWord}
 use Rattle.text.specs.Line.{noRow, numbersOf, nameText, spaced, column, body, line}
 use Rattle.text.specs.Listing.{headText, header, listing}
-use Rattle.output.specs.Output.{heldNumbers, held}
-use Rattle.text.specs.TextAnswer.{listedNumbers, textAnswer}
 use Rattle.text.specs.Words.{split, lastWord, lineAt, free}
 use Rattle.text.specs.Marks.{Plain, Marked}
-use Rattle.text.proofs.TextAnswers.{Answered, written}
+use Rattle.text.proofs.TextAnswers.{Answered, Clauses, clauses-then, written}
 use Rattle.text.proofs.WordLaws.{split-at, split-free, free-cons, free-append, free-decimal, free-each, lastWord-spaced}
 
 free-mark : (v : Verdict) → (free 10 (verdictWord v) ≡ true) × (free 32 (verdictWord v) ≡ true)
@@ -100,10 +98,9 @@ mark-of rs k h l = ap lastWord (line-of rs k h l) ∙ body-mark (getD rs k noRow
 
 -- the same of what a call has written
 pub marked : (rs : List Row) (d e : List ℕ) (r : Listed) → Answered mostText (listing rs) d e r → Marked rs e r
-marked rs d e r a n k b p l = rw (written (listing rs) d e r (a .0) (a .1 .0) n b) (mark-of rs k p l)
+marked rs d e r a n k b p l = rw (written (listing rs) d e r (a .answer) (a .buffer) n b) (mark-of rs k p l)
 
 -- the clauses of a call that lists
 pub and-marked : (rs : List Row) (d : List ℕ) {e : List ℕ} {r : Listed} → Answered mostText (listing rs) d e r
-    → (r ≡ textAnswer (listing rs) d)
-    × ((e ≡ held (listing rs) d) × ((listedNumbers r ≡ heldNumbers (listing rs) d) × ((length (listing rs) ≤ mostText) × Marked rs e r)))
-and-marked rs d {e} {r} a = (a .0, (a .1 .0, (a .1 .1 .0, (a .1 .1 .1, marked rs d e r a))))
+    → Clauses mostText (listing rs) d e r ((length (listing rs) ≤ mostText) × Marked rs e r)
+and-marked rs d {e} {r} a = clauses-then a (marked rs d e r a)

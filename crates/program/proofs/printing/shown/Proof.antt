@@ -1,6 +1,6 @@
 use denote.Ref.{now}
 use Rattle.listing.specs.Reports.{reportOf}
-use Rattle.listing.proofs.ListLaws.{as-answered}
+use Rattle.text.proofs.TextAnswers.{by-clauses-then}
 use Rattle.program.proofs.ShownLaws.{shown-some, shown-none}
 use borrow.Author.Needs.{needs}
 use Rattle.program.proofs.printing.shown.Statement.{statement}
@@ -24,7 +24,7 @@ returns c =
     let s = r .before .before .before .before in
     let f = now (s .args .file) in
     let d = now (s .args .out) in
-    shown-some (reportOf f) d (c .before .r .given .0 .0) (c .before .r .given .1) (as-answered f d (r .report .ensures))
+    shown-some (reportOf f) d (c .before .r .given .0 .0) (c .before .r .given .1) (by-clauses-then (r .report .ensures))
 
 same-length-2 : tie.Need-same-length-2
 same-length-2 c = search needs
@@ -35,7 +35,7 @@ returns-2 c =
     let s = r .before .before .before .before in
     let f = now (s .args .file) in
     let d = now (s .args .out) in
-    shown-none (reportOf f) d (c .enum-told .given .1) (as-answered f d (r .report .ensures))
+    shown-none (reportOf f) d (c .enum-told .given .1) (by-clauses-then (r .report .ensures))
 
 pub shown-spec : {M : Type 1} → statement M
 shown-spec =

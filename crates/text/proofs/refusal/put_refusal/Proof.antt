@@ -6,7 +6,7 @@ use lib.ListN.{length, length-set}
 use Rattle.text.specs.RefusalLine.{numbered, refusedWord, atWord}
 use Rattle.output.proofs.WritingLaws.{then, stored}
 use Rattle.text.proofs.LineLaws.{length-refusal, refusal-is}
-use Rattle.text.proofs.TextAnswers.{text-refused, text-printed}
+use Rattle.text.proofs.TextAnswers.{as-clauses, text-refused, text-printed}
 use borrow.Author.Needs.{needs}
 use Rattle.text.proofs.refusal.put_refusal.Statement.{statement}
 use Rattle.text.proofs.refusal.put_refusal.Tie as tie
@@ -31,7 +31,7 @@ returns c =
     let n = c .before .before .before in
     let s = n .before .before in
     let l = length-refusal (n .rule-number .result) (s .args .at) in
-    rw (← refusal-is (s .args .rule) (s .args .at) (n .rule-number .ensures)) (text-refused (numbered (n .rule-number .result) (s .args .at)) (now (s .args .out)) (omega arith) (omega arith))
+    rw (← refusal-is (s .args .rule) (s .args .at) (n .rule-number .ensures)) (as-clauses (text-refused (numbered (n .rule-number .result) (s .args .at)) (now (s .args .out)) (omega arith) (omega arith)))
 
 slice-aggregate-put-bytes : tie.Need-slice-aggregate-put-bytes
 slice-aggregate-put-bytes c = search needs
@@ -81,11 +81,11 @@ returns-2 c =
     let s = n .before .before in
     let text = numbered (n .rule-number .result) (s .args .at) in
     rw (← refusal-is (s .args .rule) (s .args .at) (n .rule-number .ensures))
-    (text-printed text
+    (as-clauses (text-printed text
     (then (then (then (then (b1 .put-bytes .ensures .fits (omega arith)) (d2 .put-decimal .ensures)) (b3 .put-bytes2 .ensures .fits (room b3))) (d4 .put-decimal2 .ensures))
     (stored (d4 .put-decimal2 .last .0) (d4 .put-decimal2 .result) 10))
     (omega (arith, b1 .before .before .before, length-refusal (n .rule-number .result) (s .args .at)))
-    (omega (arith, b1 .before .before .before, length-refusal (n .rule-number .result) (s .args .at))))
+    (omega (arith, b1 .before .before .before, length-refusal (n .rule-number .result) (s .args .at)))))
 
 pub put-refusal-spec : {M : Type 1} → statement M
 put-refusal-spec =
