@@ -6,7 +6,7 @@ use Prim.Native.Nat.{ℕ, _*_, _%_, _≤_, _<_}
 use native.Mathlib.Nat.{mod-eq-of-lt}
 use native.Mathlib.Omega.{arith}
 use lib.Dec.{leb, eqb}
-use lib.ListN.{getD, List·getD-eq-default}
+use lib.ListN.{List·getD-eq-default}
 use borrow.Author.Tests.{leb-true, le-leb, lt-leb, eqb-true, eq-eqb}
 use Rattle.site.specs.declared.Site.{Site}
 use Rattle.site.specs.declared.Rule.the-variants.{BadLength}

@@ -4,7 +4,7 @@ use native.Mathlib.Nat.{mod-self}
 use native.Mathlib.Omega.{arith}
 use lib.Dec.{eqb}
 use borrow.Author.Needs.{needs}
-use Rattle.site.specs.Values.{itemsOf, lengthPermitted}
+use Rattle.site.specs.Values.{lengthPermitted}
 use Rattle.site.proofs.LengthLaws.{width-positive, longest, permitted-none, permitted-more, permitted-items}
 use Rattle.site.proofs.length.length_permitted.Statement.{statement}
 use Rattle.site.proofs.length.length_permitted.Tie as tie

@@ -1,3 +1,4 @@
+-- The loop's invariant: the name is in range where the bytes left are.
 use mathlib.Core.Path.{_≡_, sym, _∙_}
 use Prim.Native.Nat.{_-_, _≤_, _<_, min}
 use native.Mathlib.Omega.{arith}

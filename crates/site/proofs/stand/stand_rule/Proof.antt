@@ -1,3 +1,4 @@
+-- The loop's invariant: rules 8 to 10 of the stand are those of the entries left, given what the others have shown.
 use mathlib.Core.Path.{_≡_, sym, _∙_}
 use mathlib.Core.Logic.{⊎-elim}
 use Prim.Native.Nat.{_*_, _-_, _≤_, _<_, min}
