@@ -48,7 +48,7 @@ each-bounds es n p i h =
     rw getD-take at (entry-bounds (getD (take n es) i noEntry) (all-at entryRanged (take n es) i noEntry l p)))
     (le-or-lt (length es) i)
 
-pub stand-bounds : (s : Site) → countRule 7 s ≡ Passed → valueRule 7 s ≡ Passed → StandBounds (s .stand) (s .entries)
+stand-bounds : (s : Site) → countRule 7 s ≡ Passed → valueRule 7 s ≡ Passed → StandBounds (s .stand) (s .entries)
 unfolding itemCount valueRule standRule
 stand-bounds s c v =
     let n = s .entries in

@@ -12,7 +12,7 @@ use Rattle.site.specs.Check.{fieldsRule, siteRule}
 use Rattle.site.proofs.Tests.{le-or-lt}
 use Rattle.site.proofs.Passing.{both-passed}
 
-pub field-passed : (ds : List ℕ) (k : ℕ) (s : Site) → k < length ds → fieldsRule ds s ≡ Passed
+field-passed : (ds : List ℕ) (k : ℕ) (s : Site) → k < length ds → fieldsRule ds s ≡ Passed
     → (countRule (getD ds k 0) s ≡ Passed) × (valueRule (getD ds k 0) s ≡ Passed)
 unfolding fieldsRule
 field-passed [] k s h e = absurd (omega arith)

@@ -8,7 +8,7 @@ abbrev pub NoneOf : ℕ → ℕ → ℕ → Type 0
 NoneOf a zero t = Unit
 NoneOf a (suc n) t = NoneOf a n t × (t ≡ a + n → ⊥)
 
-pub none-of : (a n t : ℕ) → NoneOf a n t → t < a + n → t < a
+none-of : (a n t : ℕ) → NoneOf a n t → t < a + n → t < a
 none-of a zero t p h = omega arith
 none-of a (suc n) t p h = none-of a n t (p .0) (omega (arith, p .1))
 

@@ -15,7 +15,7 @@ use Rattle.site.specs.Ranges.{Range}
 use Rattle.site.specs.Values.{ranged, inside, between}
 use Rattle.site.proofs.Tests.{and-l, and-r}
 
-pub clash : (r : Rule) → Broken r ≡ Passed → ⊥
+clash : (r : Rule) → Broken r ≡ Passed → ⊥
 clash r e = let z : _≡_ {A = ℕ} 0 1 = cc in omega arith
 
 pub pass-else : (b : Bool) (r : Rule) (x : Checked) → pick b (Broken r) x ≡ Passed → (b ≡ false) × (x ≡ Passed)

@@ -1,7 +1,7 @@
 -- Laws of tests.
 use mathlib.Core.Path.{_≡_, refl}
 use mathlib.Core.Logic.{_⊎_, inl, inr}
-use mathlib.Core.Bool.{Bool, true, false, _&&_, _||_, false≢true}
+use mathlib.Core.Bool.{Bool, true, false, _&&_, false≢true}
 use Prim.Native.Nat.{ℕ, _≤_, _<_}
 use lib.Dec.{leb}
 use borrow.Author.Tests.{leb-true, leb-false}
@@ -21,7 +21,3 @@ and-l false b e = e
 pub and-r : (a b : Bool) → a && b ≡ true → b ≡ true
 and-r true b e = e
 and-r false b e = absurd (false≢true e)
-
-pub or-false : (a : Bool) → a ≡ a || false || false
-or-false true = refl
-or-false false = refl

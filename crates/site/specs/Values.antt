@@ -17,14 +17,14 @@ use Rattle.site.specs.declared.Checked.the-variants.{Passed, Broken}
 abbrev pub due : List ℕ
 due = 1 ∷ 2 ∷ 3 ∷ 4 ∷ 5 ∷ 6 ∷ 7 ∷ 8 ∷ 9 ∷ 10 ∷ 11 ∷ 12 ∷ 13 ∷ 14 ∷ 15 ∷ []
 
--- A field holds items: the bytes of the name, the entries of the stand, else one value. Here: w bytes each, at most n of them.
+-- a field holds items, the bytes of the name, the entries of the stand, else one value: here of w bytes each, at most n
 abbrev items : ℕ → ℕ → Items
 items w n = record { width = w; most = n }
 
 abbrev pub noItems : Items
 noItems = items 1 0
 
--- by tag
+-- the column "Bytes" of document 01, by tag from 0
 abbrev pub fieldItems : List Items
 fieldItems =
     noItems
@@ -97,7 +97,7 @@ orderRule rising shares = pick rising (pick (eqb shares 100) Passed (Broken Shar
 unfoldable pub standRule : List Entry → Checked
 standRule es = pick (allOf entryRanged es) (orderRule (risingFrom 0 es) (sharesOf es)) (Broken OutOfRange)
 
--- rules 8, 9 and 10 of each field, by tag; the deposition has none
+-- rules 8, 9 and 10 of each field, by tag from 0; the deposition has no range
 abbrev pub valueRules : Site → List Checked
 valueRules s =
     Passed

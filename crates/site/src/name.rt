@@ -4,7 +4,7 @@ ghost use lib.ListN.{take};
 ghost use Rattle.site.specs.Values.{nameByte, allOf, ranged};
 use crate::Checked;
 use crate::numbers::in_range;
-use crate::numbers::part_len;
+use crate::numbers::wide;
 
 fn name_byte(b: u8) -> bool
     ensures { λ r. ⌜ r ≡ nameByte b ⌝ }
@@ -24,9 +24,12 @@ fn name_byte(b: u8) -> bool
 fn name_ranged(name: [u8; 8], n: u8) -> bool
     ensures { λ r. ⌜ r ≡ allOf nameByte (take n name) ⌝ }
 {
-    let count = part_len(n, 8);
+    let count = wide(n);
     let mut i: usize = 0;
-    while i < count {
+    while i < 8 {
+        if count <= i {
+            return true;
+        }
         let b = name[i];
         if name_byte(b) {
             i += 1;

@@ -1,6 +1,6 @@
-// Numbers, and rule 8 for a number.
+// Rule 8 for a number.
 ghost use mathlib.Core.Path.{_≡_};
-ghost use Prim.Native.Nat.{_≤_, min};
+ghost use Prim.Native.Nat.{_≤_};
 ghost use Rattle.site.specs.Values.{ranged, between};
 use crate::Checked;
 use crate::Rule;
@@ -10,17 +10,6 @@ pub fn wide(b: u8) -> usize
     ensures { λ r. ⌜ (r ≡ b) × (r ≤ 255) ⌝ }
 {
     b as usize
-}
-
-// How many the first n of so many elements are.
-pub fn part_len(n: u8, elements: usize) -> usize
-    ensures { λ r. ⌜ r ≡ min n elements ⌝ }
-{
-    let count = wide(n);
-    if count < elements {
-        return count;
-    }
-    elements
 }
 
 pub fn in_range(ok: bool) -> Checked

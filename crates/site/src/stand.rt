@@ -8,7 +8,6 @@ ghost use Rattle.site.specs.Values.{entryRanged, orderRule, standRule};
 use crate::Checked;
 use crate::Entry;
 use crate::Rule;
-use crate::numbers::part_len;
 use crate::numbers::wide;
 
 fn entry_ranged(e: Entry) -> bool
@@ -68,14 +67,17 @@ fn seen_rule(seen: Seen) -> Checked
 pub fn stand_rule(stand: [Entry; 4], n: u8) -> Checked
     ensures { λ r. ⌜ r ≡ standRule (take n stand) ⌝ }
 {
-    let count = part_len(n, 4);
+    let count = wide(n);
     let mut seen = Seen {
         rising: true,
         least: 0,
         shares: 0,
     };
     let mut i: usize = 0;
-    while i < count {
+    while i < 4 {
+        if count <= i {
+            break;
+        }
         let e = stand[i];
         if entry_ranged(e) {
             seen = with_entry(seen, e);

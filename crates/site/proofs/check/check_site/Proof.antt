@@ -1,3 +1,4 @@
+-- The tags are three runs of five.
 use mathlib.Core.Path.{refl}
 use mathlib.Core.List.{[]}
 use lib.ListN.{drop}

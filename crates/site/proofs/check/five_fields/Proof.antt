@@ -1,3 +1,4 @@
+-- Each field's answer is the one that the field before it takes.
 use borrow.Author.Needs.{needs}
 use Rattle.site.proofs.check.five_fields.Statement.{statement}
 use Rattle.site.proofs.check.five_fields.Tie as tie

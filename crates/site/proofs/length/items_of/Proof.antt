@@ -1,3 +1,4 @@
+-- Each arm computes; what is left are the tags past the table, and 0.
 use mathlib.Core.Path.{sym}
 use Rattle.site.proofs.MatchLaws.{none-below}
 use Rattle.site.proofs.LengthLaws.{no-items}

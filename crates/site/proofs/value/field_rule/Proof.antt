@@ -1,3 +1,4 @@
+-- Each arm is its callee's answer; what is left are the tags past the list, and 0.
 use mathlib.Core.Path.{sym}
 use borrow.Author.Needs.{needs}
 use Rattle.site.specs.Values.{valueRule}
