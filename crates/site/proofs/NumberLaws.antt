@@ -8,7 +8,7 @@ use lib.Dec.{leb, eqb}
 use borrow.Author.Tests.{leb-true}
 use Rattle.site.specs.declared.Site.{Site}
 use Rattle.site.specs.declared.Entry.{Entry}
-use Rattle.site.specs.declared.Rule.the-variants.{BadLength, OutOfRange, SharesNotWhole}
+use Rattle.site.specs.declared.Rule.the-variants.{BadLength, OutOfRange}
 use Rattle.site.specs.declared.Checked.{Checked}
 use Rattle.site.specs.declared.Checked.the-variants.{Passed, Broken}
 use Rattle.site.specs.Choice.{pick}
@@ -62,16 +62,19 @@ known-between : (r : Range) (x : ℕ) → known (between r x) ≡ true
 unfolding between
 known-between r x = known-ranged (inside r x)
 
-known-order : (rising : Bool) (shares : ℕ) → known (orderRule rising shares) ≡ true
+known-order : (rising whole : Bool) → known (orderRule rising whole) ≡ true
 unfolding known
-known-order true shares = known-pick (eqb shares 100) Passed (Broken SharesNotWhole) refl refl
-known-order false shares = refl
+known-order true true = refl
+known-order true false = refl
+known-order false true = refl
+known-order false false = refl
 
 known-stand : (es : List Entry) → known (standRule es) ≡ true
 unfolding standRule known
 known-stand es =
-    let order = orderRule (risingFrom 0 es) (sharesOf es) in
-    known-pick (allOf entryRanged es) order (Broken OutOfRange) (known-order (risingFrom 0 es) (sharesOf es)) refl
+    let rising = risingFrom 0 es in
+    let whole = eqb (sharesOf es) 100 in
+    known-pick (allOf entryRanged es) (orderRule rising whole) (Broken OutOfRange) (known-order rising whole) refl
 
 known-count : (t : ℕ) (s : Site) → known (countRule t s) ≡ true
 unfolding countRule known

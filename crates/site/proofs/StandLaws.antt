@@ -4,7 +4,7 @@ use mathlib.Core.Bool.{true, false, _&&_, and-true, and-assoc}
 use mathlib.Core.List.{List}
 use Prim.Native.Nat.{ℕ, _+_, _≤_, _<_, min}
 use native.Mathlib.Nat.{add-zero, zero-add, add-assoc}
-use lib.Dec.{leb}
+use lib.Dec.{leb, eqb}
 use lib.ListN.{length, getD, take, drop}
 use Rattle.site.specs.declared.Entry.{Entry}
 use Rattle.site.specs.declared.stand.Seen.{Seen}
@@ -24,14 +24,14 @@ withEntry s e = record { rising = (s .rising) && leb (s .least) (e .species); le
 
 unfoldable pub restRule : Seen → List Entry → Checked
 restRule s es =
-    pick (allOf entryRanged es) (orderRule ((s .rising) && risingFrom (s .least) es) (s .shares + sharesOf es)) (Broken OutOfRange)
+    pick (allOf entryRanged es) (orderRule ((s .rising) && risingFrom (s .least) es) (eqb (s .shares + sharesOf es) 100)) (Broken OutOfRange)
 
 pub rest-start : (es : List Entry) → standRule es ≡ restRule start es
 unfolding standRule restRule
 rest-start es = rw zero-add
 
 module _ (n i : ℕ) (l : List Entry) (s : Seen) where
-  pub rest-end : min n (length l) ≤ i → restRule s (drop i (take n l)) ≡ orderRule (s .rising) (s .shares)
+  pub rest-end : min n (length l) ≤ i → restRule s (drop i (take n l)) ≡ orderRule (s .rising) (eqb (s .shares) 100)
   unfolding restRule allOf risingFrom sharesOf
   rest-end h = rw (part-end n i l h, and-true, add-zero)
 

@@ -89,13 +89,13 @@ unfoldable pub sharesOf : List Entry → ℕ
 sharesOf [] = 0
 sharesOf (e ∷ es) = e .share + sharesOf es
 
--- rules 9 and 10 of a stand whose species rise or not and whose shares have the given sum
-abbrev pub orderRule : Bool → ℕ → Checked
-orderRule rising shares = pick rising (pick (eqb shares 100) Passed (Broken SharesNotWhole)) (Broken NotRising)
+-- rule 9, then 10, by whether species rise and shares are whole
+abbrev pub orderRule : Bool → Bool → Checked
+orderRule rising whole = pick rising (pick whole Passed (Broken SharesNotWhole)) (Broken NotRising)
 
 -- rule 8 over all entries, then 9, then 10
 unfoldable pub standRule : List Entry → Checked
-standRule es = pick (allOf entryRanged es) (orderRule (risingFrom 0 es) (sharesOf es)) (Broken OutOfRange)
+standRule es = pick (allOf entryRanged es) (orderRule (risingFrom 0 es) (eqb (sharesOf es) 100)) (Broken OutOfRange)
 
 -- rules 8, 9 and 10 of each field, by tag from 0; the deposition has no range
 abbrev pub valueRules : Site → List Checked

@@ -2,7 +2,7 @@
 ghost use mathlib.Core.Bool.{_&&_};
 ghost use mathlib.Core.Path.{_≡_};
 ghost use Prim.Native.Nat.{_+_, _≤_};
-ghost use lib.Dec.{leb};
+ghost use lib.Dec.{leb, eqb};
 ghost use lib.ListN.{take};
 ghost use Rattle.site.specs.Values.{entryRanged, orderRule, standRule};
 use crate::Checked;
@@ -51,9 +51,9 @@ fn with_entry(seen: Seen, e: Entry) -> Seen
     }
 }
 
-// Rules 9 and 10.
+// Rule 9, then 10.
 fn seen_rule(seen: Seen) -> Checked
-    ensures { λ r. ⌜ r ≡ orderRule (seen .rising) (seen .shares) ⌝ }
+    ensures { λ r. ⌜ r ≡ orderRule (seen .rising) (eqb (seen .shares) 100) ⌝ }
 {
     if seen.rising {
         if seen.shares == 100 {
