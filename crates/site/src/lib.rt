@@ -16,8 +16,6 @@ pub use bytes::word_at;
 pub use check::check_site;
 pub use length::length_permitted;
 pub use name::name_rule;
-pub use numbers::wide;
-pub use numbers::word_between;
 pub use ranges::available_rule;
 pub use ranges::base_deposition_rule;
 pub use ranges::ceiling_rule;
@@ -32,6 +30,7 @@ pub use ranges::ratio_rule;
 pub use ranges::texture_rule;
 pub use refusal::rule_number;
 pub use stand::stand_rule;
+pub use widen::wide;
 pub use widen::wide8;
 pub use widen::wide16;
 

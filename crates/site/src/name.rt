@@ -4,7 +4,7 @@ ghost use lib.ListN.{take};
 ghost use Rattle.site.specs.Values.{nameByte, allOf, ranged};
 use crate::Checked;
 use crate::numbers::in_range;
-use crate::numbers::wide;
+use crate::widen::wide;
 
 fn name_byte(b: u8) -> bool
     ensures { λ r. ⌜ r ≡ nameByte b ⌝ }

@@ -1,16 +1,8 @@
 // Rule 8 for a number.
 ghost use mathlib.Core.Path.{_≡_};
-ghost use Prim.Native.Nat.{_≤_};
 ghost use Rattle.site.specs.Values.{ranged, between};
 use crate::Checked;
 use crate::Rule;
-
-// The bound goes with the value, so that a sum of bytes is seen to fit.
-pub fn wide(b: u8) -> usize
-    ensures { λ r. ⌜ (r ≡ b) × (r ≤ 255) ⌝ }
-{
-    b as usize
-}
 
 pub fn in_range(ok: bool) -> Checked
     ensures { λ r. ⌜ r ≡ ranged ok ⌝ }

@@ -7,8 +7,8 @@ ghost use Rattle.site.specs.Values.{ranged, between};
 use crate::Checked;
 use crate::numbers::byte_between;
 use crate::numbers::in_range;
-use crate::numbers::wide;
 use crate::numbers::word_between;
+use crate::widen::wide;
 
 pub fn parent_rule(x: u8) -> Checked
     ensures { λ r. ⌜ r ≡ between parentRange x ⌝ }

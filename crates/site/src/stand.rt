@@ -8,7 +8,7 @@ ghost use Rattle.site.specs.Values.{entryRanged, orderRule, standRule};
 use crate::Checked;
 use crate::Entry;
 use crate::Rule;
-use crate::numbers::wide;
+use crate::widen::wide;
 
 fn entry_ranged(e: Entry) -> bool
     ensures { λ r. ⌜ r ≡ entryRanged e ⌝ }

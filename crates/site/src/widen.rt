@@ -1,6 +1,13 @@
-// Raw numbers as the calculation takes them.
+// Raw numbers, widened.
 ghost use mathlib.Core.Path.{_≡_};
 ghost use Prim.Native.Nat.{_≤_};
+
+// The bound goes with the value, so that sums and products are seen to fit.
+pub fn wide(b: u8) -> usize
+    ensures { λ r. ⌜ (r ≡ b) × (r ≤ 255) ⌝ }
+{
+    b as usize
+}
 
 pub fn wide8(x: u8) -> u64
     ensures { λ r. ⌜ r ≡ x ⌝ }
