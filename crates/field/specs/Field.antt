@@ -82,21 +82,21 @@ blankSite = record {
 abbrev pub values : Site → List (List ℕ)
 values s =
     []
-    ∷ take (s .«name_len») (s .name)
-    ∷ (s .parent ∷ [])
-    ∷ (s .clay ∷ s .sand ∷ [])
-    ∷ (s .depth ∷ [])
-    ∷ (s .drainage ∷ [])
-    ∷ wordBytes (s .percolation)
-    ∷ entriesBytes (take (s .entries) (s .stand))
-    ∷ wordBytes (s .immobilisation)
-    ∷ (s .available ∷ [])
-    ∷ wordBytes (s .«base_deposition»)
-    ∷ wordBytes (s .ratio)
-    ∷ wordBytes (s .gibbsite)
-    ∷ wordBytes (s .ceiling)
-    ∷ wordBytes (s .leachate)
-    ∷ (wordBytes (s .sulphur) ++ wordBytes (s .nitrogen))
+    ∷ take (s .«name_len») (s .name)  -- 01
+    ∷ (s .parent ∷ [])  -- 02
+    ∷ (s .clay ∷ s .sand ∷ [])  -- 03
+    ∷ (s .depth ∷ [])  -- 04
+    ∷ (s .drainage ∷ [])  -- 05
+    ∷ wordBytes (s .percolation)  -- 06
+    ∷ entriesBytes (take (s .entries) (s .stand))  -- 07
+    ∷ wordBytes (s .immobilisation)  -- 08
+    ∷ (s .available ∷ [])  -- 09
+    ∷ wordBytes (s .«base_deposition»)  -- 0A
+    ∷ wordBytes (s .ratio)  -- 0B
+    ∷ wordBytes (s .gibbsite)  -- 0C
+    ∷ wordBytes (s .ceiling)  -- 0D
+    ∷ wordBytes (s .leachate)  -- 0E
+    ∷ (wordBytes (s .sulphur) ++ wordBytes (s .nitrogen))  -- 0F
     ∷ []
 
 -- the bytes of the value with tag t; another tag has none

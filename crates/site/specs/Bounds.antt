@@ -1,4 +1,4 @@
--- The ranges of a site that passes the check, as the calculation leans on them.
+-- Upper bounds of the values of a site that passes the check, and the least ratio.
 use Prim.Native.Nat.{ℕ, _+_, _≤_, _<_}
 use mathlib.Core.List.{List}
 use lib.ListN.{getD}

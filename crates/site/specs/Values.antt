@@ -101,20 +101,20 @@ standRule es = pick (allOf entryRanged es) (orderRule (risingFrom 0 es) (eqb (sh
 abbrev pub valueRules : Site → List Checked
 valueRules s =
     Passed
-    ∷ ranged (allOf nameByte (take (s .«name_len») (s .name)))
-    ∷ between parentRange (s .parent)
-    ∷ ranged (leb ((s .clay) + s .sand) mostTexture)
-    ∷ between depthRange (s .depth)
-    ∷ between drainageRange (s .drainage)
-    ∷ between percolationRange (s .percolation)
-    ∷ standRule (take (s .entries) (s .stand))
-    ∷ between immobilisationRange (s .immobilisation)
-    ∷ between availableRange (s .available)
-    ∷ between baseDepositionRange (s .«base_deposition»)
-    ∷ between ratioRange (s .ratio)
-    ∷ between gibbsiteRange (s .gibbsite)
-    ∷ between ceilingRange (s .ceiling)
-    ∷ between leachateRange (s .leachate)
+    ∷ ranged (allOf nameByte (take (s .«name_len») (s .name)))  -- 01
+    ∷ between parentRange (s .parent)  -- 02
+    ∷ ranged (leb ((s .clay) + s .sand) mostTexture)  -- 03
+    ∷ between depthRange (s .depth)  -- 04
+    ∷ between drainageRange (s .drainage)  -- 05
+    ∷ between percolationRange (s .percolation)  -- 06
+    ∷ standRule (take (s .entries) (s .stand))  -- 07
+    ∷ between immobilisationRange (s .immobilisation)  -- 08
+    ∷ between availableRange (s .available)  -- 09
+    ∷ between baseDepositionRange (s .«base_deposition»)  -- 0A
+    ∷ between ratioRange (s .ratio)  -- 0B
+    ∷ between gibbsiteRange (s .gibbsite)  -- 0C
+    ∷ between ceilingRange (s .ceiling)  -- 0D
+    ∷ between leachateRange (s .leachate)  -- 0E
     ∷ []
 
 unfoldable pub valueRule : ℕ → Site → Checked
