@@ -31,18 +31,25 @@ number-range NotRising = (omega arith, omega arith)
 number-range SharesNotWhole = (omega arith, omega arith)
 number-range BufferShort = (omega arith, omega arith)
 
-pub told : (l : Listed) {r : ℕ} → r ≡ listedCode l → ((n : ℕ) → l ≡ Count n → n < codeBase) → ((rule : Rule) (at : ℕ) → l ≡ Refused rule at → at < codeBase) → Told l r
-unfolding listedCode refusalCode
-told l e small near = record {
-  count = λ n q. (rw q at e, rw (rw q at e) (small n q));
-  refusal = λ rule at q. (rw q at e ∙ rw (mod-eq-of-lt (near rule at q)), near rule at q);
-}
-
 -- a number below 2³² is a count
 pub count-below : (l : Listed) {r : ℕ} → r ≡ listedCode l → r < codeBase → l ≡ Count r
 unfolding listedCode refusalCode
 count-below (Count n) e h = rw e
 count-below (Refused rule at) e h = absurd (omega (arith, number-range rule .0))
+
+pub told : (l : Listed) {r : ℕ} → r ≡ listedCode l → ((n : ℕ) → l ≡ Count n → n < codeBase) → ((rule : Rule) (at : ℕ) → l ≡ Refused rule at → at < codeBase) → Told l r
+unfolding listedCode refusalCode
+told l e small near = record {
+  below = count-below l e;
+  count = λ n q. (rw q at e, rw (rw q at e) (small n q));
+  refusal = λ rule at q. (rw q at e ∙ rw (mod-eq-of-lt (near rule at q)), near rule at q);
+}
+
+-- and so is any of them that a check gives
+pub code-passed : (c : Checked) (n : ℕ) → codeIf c n < codeBase → c ≡ Passed
+unfolding codeIf refusalCode
+code-passed Passed n h = refl
+code-passed (Broken rule) n h = absurd (omega (arith, number-range rule .0))
 
 -- the code of a writing's answer
 pub code-is : (c : Checked) (n : ℕ) → codeIf c n ≡ listedCode (answerIf Count (λ rule. Refused rule 0) c n)

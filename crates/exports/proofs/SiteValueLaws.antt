@@ -16,14 +16,15 @@ use Rattle.loads.specs.SiteTerms.{termsOf}
 use Rattle.judgement.specs.declared.Verdict.{Verdict}
 use Rattle.judgement.specs.declared.Verdict.the-variants.{Within, Over}
 use Rattle.judgement.specs.Verdicts.{verdict, verdictNumbers}
-use Rattle.judgement.specs.Balance.{Marks}
+use Rattle.judgement.specs.Balance.{MarkSays}
 use Rattle.judgement.proofs.Demand3.{verdict-tells}
 use Rattle.judgement.proofs.AtSites.{site-bounds}
 use Rattle.output.specs.Output.{outputRule, heldAfter}
 use Rattle.output.specs.Writing.{Wrote}
 use Rattle.output.proofs.WritingLaws.{in-front}
-use Rattle.output.proofs.OutputLaws.{output-broken, output-short, output-whole}
+use Rattle.output.proofs.OutputLaws.{output-broken, output-short, output-whole, output-passed}
 use Rattle.exports.specs.Results.{refusalCode, codeIf}
+use Rattle.exports.proofs.CodeLaws.{code-passed}
 use Rattle.exports.specs.Layout.{siteIn, valueCheck, loadsNumbers, markNumber, verdictMarked, judgementNumbers}
 
 module _ (b : List ℕ) where
@@ -67,7 +68,7 @@ length-judged s = omega (arith, length-marked (verdict (termsOf s) (s .sulphur) 
 
 -- ---- demand 3 of the mark
 
-mark-tells : (s : Site) → siteRule s ≡ Passed → Marks (markNumber (verdict (termsOf s) (s .sulphur) (s .nitrogen))) s
+mark-tells : (s : Site) → siteRule s ≡ Passed → MarkSays (markNumber (verdict (termsOf s) (s .sulphur) (s .nitrogen))) s
 unfolding markNumber
 mark-tells s p = verdict-tells (termsOf s) (site-bounds s p) (s .sulphur) (s .nitrogen) markNumber refl (λ r a n. refl) (λ e. omega arith)
 
@@ -90,8 +91,17 @@ module _ (b old new : List ℕ) where
       let q : new ≡ judgementNumbers (siteIn b) ++ drop (length (judgementNumbers (siteIn b))) old = rw (output-whole 8 (length old) (valueCheck b) p l) at e in
       rw q (mark-at (verdict (termsOf (siteIn b)) (siteIn b .sulphur) (siteIn b .nitrogen)) (drop (length (judgementNumbers (siteIn b))) old))
 
-  pub with-marks : {A : Type 0}
-      → A × (new ≡ heldAfter (outputRule (valueCheck b) 8 (length old)) (judgementNumbers (siteIn b)) old)
-      → A × ((new ≡ heldAfter (outputRule (valueCheck b) 8 (length old)) (judgementNumbers (siteIn b)) old)
-      × (valueCheck b ≡ Passed → 8 ≤ length old → Marks (getD new 7 0) (siteIn b)))
-  with-marks x = (x .0, (x .1, λ p l. rw (mark-is (x .1) p l) (mark-tells (siteIn b) (site-passes b p))))
+  -- the number 8 says that the judgement was written, and then the mark says whether the balances close
+  pub with-marks : {r : ℕ}
+      → (r ≡ codeIf (outputRule (valueCheck b) 8 (length old)) 8) × (new ≡ heldAfter (outputRule (valueCheck b) 8 (length old)) (judgementNumbers (siteIn b)) old)
+      → (r ≡ codeIf (outputRule (valueCheck b) 8 (length old)) 8)
+      × ((new ≡ heldAfter (outputRule (valueCheck b) 8 (length old)) (judgementNumbers (siteIn b)) old) × (r ≡ 8 → MarkSays (getD new 7 0) (siteIn b)))
+  with-marks x = (
+    x .0,
+    (
+      x .1,
+      λ e.
+          let passed = output-passed 8 (length old) (valueCheck b) (code-passed _ 8 (omega (arith, x .0))) in
+          rw (mark-is (x .1) (passed .0) (passed .1)) (mark-tells (siteIn b) (site-passes b (passed .0))),
+    ),
+  )

@@ -3,7 +3,7 @@ ghost use mathlib.Core.Path.{_≡_};
 ghost use Prim.Native.Nat.{_+_, _≤_};
 ghost use lib.ListN.{length, getD};
 ghost use Rattle.site.specs.declared.Checked.the-variants.{Passed};
-ghost use Rattle.judgement.specs.Balance.{Marks};
+ghost use Rattle.judgement.specs.Balance.{MarkSays};
 ghost use Rattle.output.specs.Output.{outputRule, heldAfter};
 ghost use Rattle.output.specs.Writing.{Wrote};
 ghost use Rattle.exports.specs.Results.{codeIf};
@@ -82,7 +82,7 @@ fn verdict_marked(v: Verdict) -> [u64; 4]
 pub extern "C" fn forest_judge(site: &[u8], out: &mut [u64]) -> u64
     ensures answer { λ r. ⌜ r ≡ codeIf (outputRule (valueCheck (now (site .entry))) 8 (length (now (out .entry)))) 8 ⌝ }
     ensures buffer { λ _. ⌜ now (out .exit) ≡ heldAfter (outputRule (valueCheck (now (site .entry))) 8 (length (now (out .entry)))) (judgementNumbers (siteIn (now (site .entry)))) (now (out .entry)) ⌝ }
-    ensures demand3 { λ _. ⌜ (valueCheck (now (site .entry)) ≡ Passed → 8 ≤ length (now (out .entry)) → Marks (getD (now (out .exit)) 7 0) (siteIn (now (site .entry)))) ⌝ }
+    ensures demand3 { λ r. ⌜ (r ≡ 8 → MarkSays (getD (now (out .exit)) 7 0) (siteIn (now (site .entry)))) ⌝ }
 {
     if site.len() != 50 {
         return refusal_code(Rule::BadLength);

@@ -21,20 +21,24 @@ pub clean-same : (s : Site) → Sized s → siteRule s ≡ Passed → SameSite s
 unfolding clean itemCount
 clean-same s z e = record {
   name = padded-front (s .name) (s .«name_len») 8 0 (z .name) (count-parts 1 s (site-passed s e 0 (omega arith) .0) .1);
-  parent = refl;
-  clay = refl;
-  sand = refl;
-  depth = refl;
-  drainage = refl;
-  percolation = refl;
-  stand = padded-front (s .stand) (s .entries) 4 noEntry (z .stand) (count-parts 7 s (site-passed s e 6 (omega arith) .0) .1);
-  immobilisation = refl;
-  available = refl;
-  deposition = refl;
-  ratio = refl;
-  gibbsite = refl;
-  ceiling = refl;
-  leachate = refl;
+  name-length = refl;
+  entries = refl;
+  one = record {
+    parent = refl;
+    clay = refl;
+    sand = refl;
+    depth = refl;
+    drainage = refl;
+    percolation = refl;
+    stand = padded-front (s .stand) (s .entries) 4 noEntry (z .stand) (count-parts 7 s (site-passed s e 6 (omega arith) .0) .1);
+    immobilisation = refl;
+    available = refl;
+    deposition = refl;
+    ratio = refl;
+    gibbsite = refl;
+    ceiling = refl;
+    leachate = refl;
+  };
   sulphur = refl;
   nitrogen = refl;
 }

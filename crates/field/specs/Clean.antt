@@ -5,6 +5,7 @@ use mathlib.Core.List.{List, _++_}
 use lib.ListN.{getD, take, length, replicate}
 use Rattle.site.specs.declared.Site.{Site}
 use Rattle.site.specs.Bounds.{noEntry}
+use Rattle.site.specs.OneSite.{OneSite}
 
 -- the site with zeros past its name's length and its entries' count
 unfoldable pub clean : Site → Site
@@ -30,23 +31,12 @@ clean s = record {
   nitrogen = s .nitrogen;
 }
 
--- s and t are the same site: all values are equal, names up to their lengths and stands up to their counts; what stands past them is no part of a site
+-- s and t are the same site: all values are equal, name and stand up to their lengths; what stands past them is no part of a site
 pub record SameSite (s t : Site) : Type 0 where
   pub name : take (s .«name_len») (s .name) ≡ take (t .«name_len») (t .name)
-  pub parent : s .parent ≡ t .parent
-  pub clay : s .clay ≡ t .clay
-  pub sand : s .sand ≡ t .sand
-  pub depth : s .depth ≡ t .depth
-  pub drainage : s .drainage ≡ t .drainage
-  pub percolation : s .percolation ≡ t .percolation
-  pub stand : take (s .entries) (s .stand) ≡ take (t .entries) (t .stand)
-  pub immobilisation : s .immobilisation ≡ t .immobilisation
-  pub available : s .available ≡ t .available
-  pub deposition : s .«base_deposition» ≡ t .«base_deposition»
-  pub ratio : s .ratio ≡ t .ratio
-  pub gibbsite : s .gibbsite ≡ t .gibbsite
-  pub ceiling : s .ceiling ≡ t .ceiling
-  pub leachate : s .leachate ≡ t .leachate
+  pub name-length : s .«name_len» ≡ t .«name_len»
+  pub entries : s .entries ≡ t .entries
+  pub one : OneSite s t
   pub sulphur : s .sulphur ≡ t .sulphur
   pub nitrogen : s .nitrogen ≡ t .nitrogen
 
@@ -55,5 +45,6 @@ pub record Sized (s : Site) : Type 0 where
   pub name : length (s .name) ≡ 8
   pub stand : length (s .stand) ≡ 4
 
+-- every element is a byte: so it is in every slice of bytes
 abbrev pub AllBytes : List ℕ → Type 0
 AllBytes bs = (i : ℕ) → getD bs i 0 < 256

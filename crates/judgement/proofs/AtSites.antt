@@ -10,7 +10,7 @@ use Rattle.site.specs.declared.Checked.the-variants.{Passed}
 use Rattle.site.proofs.BoundsLaw.{bounds}
 use Rattle.loads.specs.Terms.{TermBounds}
 use Rattle.loads.specs.SiteTerms.{termsOf}
-use Rattle.loads.specs.OneSite.{OneSite}
+use Rattle.site.specs.OneSite.{OneSite}
 use Rattle.loads.proofs.SiteTermLaws.{term-bounds}
 use Rattle.loads.proofs.OneSiteLaws.{terms-same}
 use Rattle.judgement.specs.declared.Verdict.the-variants.{Within}

@@ -37,5 +37,5 @@ abbrev pub Says : List ℕ → Site → Type 0
 Says w s = Tells within over w (termsOf s) (s .sulphur) (s .nitrogen)
 
 -- a mark, 0 within or 1 over
-abbrev pub Marks : ℕ → Site → Type 0
-Marks m s = Tells 0 1 m (termsOf s) (s .sulphur) (s .nitrogen)
+abbrev pub MarkSays : ℕ → Site → Type 0
+MarkSays m s = Tells 0 1 m (termsOf s) (s .sulphur) (s .nitrogen)

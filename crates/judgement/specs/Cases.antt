@@ -25,11 +25,11 @@ computed (pairOfA1 S N) = regionNumber (region (termsOf a1) S N) ∷ acidExceeda
 computed (nitrogenOfA1 N) = nutrientExceedance (termsOf a1) N ∷ []
 computed (soil clay sand) = textureOf clay sand ∷ []
 
-pub record Row : Type 0 where
+pub record Case : Type 0 where
   pub question : Question
   pub given : List ℕ
 
-unfoldable pub table : List Row
+unfoldable pub table : List Case
 table =
     record { question = pairOfA1 735 205; given = 0 ∷ 0 ∷ [] }
     ∷ record { question = pairOfA1 736 205; given = 4 ∷ 1 ∷ [] }
@@ -45,6 +45,6 @@ table =
     ∷ record { question = soil 10 64; given = 2 ∷ [] }
     ∷ []
 
-agrees : map (λ (r : Row). computed (r .question)) table ≡ map (λ (r : Row). r .given) table
+agrees : map (λ (r : Case). computed (r .question)) table ≡ map (λ (r : Case). r .given) table
 unfolding table computed termsOf up textureOf classOf weatheringOf weathering availableWeathering content nitrogenIn baseIn weightOf sumOver standSum nitrogenUptake baseDemand baseUptakeOf baseUptake baseSupply aluminiumLimit hydrogenOf alOf greatestWhere levelOf hydrogen aluminium greatestLevel criticalLeaching denitrified undenitrifiedOf undenitrified leaching maxS minN nutN D excess regionOf acidIn acidOf region acidExceedance nutrientExceedance
 agrees = refl

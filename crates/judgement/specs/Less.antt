@@ -5,7 +5,7 @@ use mathlib.Core.List.{List}
 use Rattle.site.specs.declared.Site.{Site}
 use Rattle.site.specs.declared.Checked.the-variants.{Passed}
 use Rattle.site.specs.Check.{siteRule}
-use Rattle.loads.specs.OneSite.{OneSite}
+use Rattle.site.specs.OneSite.{OneSite}
 use Rattle.loads.specs.SiteTerms.{termsOf}
 use Rattle.judgement.specs.Verdicts.{acidExceedance, nutrientExceedance, verdict, verdictWord, within, over}
 

@@ -10,7 +10,7 @@ use site::Rule;
 
 // The acid regions of document 01, "Judging a pair S, N", by the condition under which each is the first that applies. n is N − CLminN.
 pub enum Region {
-    // 0: the acid balance is kept
+    // 0: S ≤ CLmaxS, and n ≤ 0 or v ≤ 0
     AcidKept,
     // 1: 1000 × v > S × D
     NoSulphur,

@@ -21,7 +21,7 @@ use Rattle.text.specs.Listing.{listing}
 use Rattle.text.specs.Words.{lastWord, lineAt, free}
 use Rattle.text.specs.Marks.{Plain}
 use Rattle.text.proofs.WordLaws.{free-cons}
-use Rattle.text.proofs.MarkLaws.{mark-of, line-count, line-behind}
+use Rattle.text.proofs.MarkLaws.{mark-of, line-count, line-header, line-behind}
 use Rattle.record.specs.Result.{good}
 use Rattle.record.specs.File.{contents}
 use Rattle.field.proofs.All.{all-at}
@@ -67,6 +67,7 @@ module _ (f : List ℕ) (ss : List Site) (e : contents f ≡ good ss) where
   pub listing-says : LinesSay ss (listing (map rowOf ss))
   listing-says = record {
     lines = omega (arith, line-count (map rowOf ss) plain, length-map rowOf ss);
+    header = line-header (map rowOf ss) plain;
     nothing-behind = rw (← length-map rowOf ss) (line-behind (map rowOf ss) plain);
     says = line-says;
   }

@@ -25,7 +25,7 @@ use Rattle.record.proofs.ResultLaws.{not-good}
 use Rattle.record.proofs.SiteFile.{sites-fault-near}
 use Rattle.listing.specs.Rows.{rowOf, padded, walkedOf}
 use Rattle.listing.specs.Reports.{listAnswer, listNumbers, listHeld, printed, reportOf}
-use Rattle.listing.specs.PrintedDemand3.{Written3}
+use Rattle.listing.specs.PrintedDemand3.{WrittenDemand3}
 use Rattle.listing.proofs.MapLaws.{length-map}
 use Rattle.listing.proofs.Demand3Laws.{listing-says}
 
@@ -64,9 +64,9 @@ by-sites x d p = rw (← x .rows) (by-clauses-then p)
 -- the clauses of the call that lists
 abbrev ListClauses : List ℕ → List ℕ → List ℕ → Listed → Type 0
 ListClauses f d e r =
-    (r ≡ listAnswer (contents f) d) × ((e ≡ listHeld (contents f) d) × ((listedNumbers r ≡ listNumbers (contents f) d) × (((n : ℕ) → r ≡ Count n → n ≤ mostText) × Written3 f e r)))
+    (r ≡ listAnswer (contents f) d) × ((e ≡ listHeld (contents f) d) × ((listedNumbers r ≡ listNumbers (contents f) d) × (((n : ℕ) → r ≡ Count n → n ≤ mostText) × WrittenDemand3 f e r)))
 
-written3 : (f d : List ℕ) {e : List ℕ} {r : Listed} (ss : List Site) → contents f ≡ good ss → Answered mostText (listing (map rowOf ss)) d e r → Written3 f e r
+written3 : (f d : List ℕ) {e : List ℕ} {r : Listed} (ss : List Site) → contents f ≡ good ss → Answered mostText (listing (map rowOf ss)) d e r → WrittenDemand3 f e r
 written3 f d {e} {r} ss h a n b ts g =
     let same : ss ≡ ts = cc in
     rw (written (listing (map rowOf ss)) d e r (a .answer) (a .buffer) n b, same) (listing-says f ts g)
@@ -95,9 +95,9 @@ list-fault-near f d {rule} {at} e = by-contents (contents f) refl e
 
 -- the clauses of the call that reports
 abbrev pub Reported : List ℕ → List ℕ → List ℕ → Listed → Type 0
-Reported f d e r = Clauses mostText (reportOf f) d e r ((length (reportOf f) ≤ mostText) × Written3 f e r)
+Reported f d e r = Clauses mostText (reportOf f) d e r ((length (reportOf f) ≤ mostText) × WrittenDemand3 f e r)
 
-reported : (f d : List ℕ) {e : List ℕ} {r : Listed} → Answered mostText (reportOf f) d e r → Written3 f e r → Reported f d e r
+reported : (f d : List ℕ) {e : List ℕ} {r : Listed} → Answered mostText (reportOf f) d e r → WrittenDemand3 f e r → Reported f d e r
 reported f d a w = clauses-then a w
 
 pub reported-sites : (f d : List ℕ) {e : List ℕ} {r : Listed} (ss : List Site) → contents f ≡ good ss → Answered mostText (listing (map rowOf ss)) d e r → Reported f d e r

@@ -9,24 +9,26 @@ use Rattle.judgement.specs.Less.{Less, Stays}
 use Rattle.field.specs.Field.{blankSite}
 use Rattle.text.specs.declared.Listed.{Listed}
 use Rattle.text.specs.declared.Listed.the-variants.{Count}
+use Rattle.text.specs.Listing.{headText}
 use Rattle.text.specs.Words.{split, lastWord, lineAt}
 use Rattle.record.specs.Result.{good}
 use Rattle.record.specs.File.{contents}
 
--- The text t has line 0, the header, then a line for each site of ss, and nothing behind the last 0A; the last word of each site's line
--- says whether its balances close.
+-- The text t has the header, then a line for each site of ss, and nothing behind the last 0A; the last word of each site's line says
+-- whether its balances close.
 pub record LinesSay (ss : List Site) (t : List ℕ) : Type 0 where
   pub lines : length (split 10 t) ≡ length ss + 2
+  pub header : lineAt 0 t ≡ headText
   pub nothing-behind : lineAt (length ss + 1) t ≡ []
   pub says : (k : ℕ) → k < length ss → Says (lastWord (lineAt (suc k) t)) (getD ss k blankSite)
 
--- demand 3 in a text t for the file f: where the checks let f pass, every line says so
+-- demand 3 in a text t for the file f: where the checks let f pass, every site's line says so
 abbrev pub Demand3 : List ℕ → List ℕ → Type 0
 Demand3 f t = (ss : List Site) → contents f ≡ good ss → LinesSay ss t
 
 -- the same of the text that a call has written into a buffer
-abbrev pub Written3 : List ℕ → List ℕ → Listed → Type 0
-Written3 f out r = (n : ℕ) → r ≡ Count n → Demand3 f (take n out)
+abbrev pub WrittenDemand3 : List ℕ → List ℕ → Listed → Type 0
+WrittenDemand3 f out r = (n : ℕ) → r ≡ Count n → Demand3 f (take n out)
 
 -- Less deposition is never worse: record k of a file f and record l of a file g, files that the checks let pass; the two records are one site,
 -- the second with as much or less sulphur and as much or less nitrogen. Where the last word of the first one's line in the text x is `within`,

@@ -5,7 +5,7 @@ ghost use Rattle.text.specs.TextLengths.{mostText};
 ghost use Rattle.text.specs.TextAnswer.{listedNumbers};
 ghost use Rattle.record.specs.File.{contents};
 ghost use Rattle.listing.specs.Reports.{listAnswer, listNumbers, listHeld};
-ghost use Rattle.listing.specs.PrintedDemand3.{Written3};
+ghost use Rattle.listing.specs.PrintedDemand3.{WrittenDemand3};
 use crate::walking::walk_file;
 use record::Outcome;
 use text::Listed;
@@ -17,7 +17,7 @@ pub fn list(file: &[u8], out: &mut [u8]) -> Listed
     ensures buffer { λ _. ⌜ now (out .exit) ≡ listHeld (contents (now (file .entry))) (now (out .entry)) ⌝ }
     ensures numbers { λ r. ⌜ listedNumbers r ≡ listNumbers (contents (now (file .entry))) (now (out .entry)) ⌝ }
     ensures enough { λ r. ⌜ ((n : ℕ) → r ≡ Listed.Count n → n ≤ mostText) ⌝ }
-    ensures demand3 { λ r. ⌜ Written3 (now (file .entry)) (now (out .exit)) r ⌝ }
+    ensures demand3 { λ r. ⌜ WrittenDemand3 (now (file .entry)) (now (out .exit)) r ⌝ }
 {
     let w = walk_file(file);
     let o = w.outcome;

@@ -6,7 +6,7 @@ ghost use Rattle.text.specs.TextLengths.{mostText};
 ghost use Rattle.output.specs.Output.{heldNumbers, held};
 ghost use Rattle.text.specs.TextAnswer.{listedNumbers, textAnswer};
 ghost use Rattle.listing.specs.Reports.{reportOf};
-ghost use Rattle.listing.specs.PrintedDemand3.{Written3};
+ghost use Rattle.listing.specs.PrintedDemand3.{WrittenDemand3};
 use crate::walking::walk_file;
 use record::Outcome;
 use text::Listed;
@@ -19,7 +19,7 @@ pub fn report(file: &[u8], out: &mut [u8]) -> Listed
     ensures buffer { λ _. ⌜ now (out .exit) ≡ held (reportOf (now (file .entry))) (now (out .entry)) ⌝ }
     ensures numbers { λ r. ⌜ listedNumbers r ≡ heldNumbers (reportOf (now (file .entry))) (now (out .entry)) ⌝ }
     ensures enough { λ _. ⌜ length (reportOf (now (file .entry))) ≤ mostText ⌝ }
-    ensures demand3 { λ r. ⌜ Written3 (now (file .entry)) (now (out .exit)) r ⌝ }
+    ensures demand3 { λ r. ⌜ WrittenDemand3 (now (file .entry)) (now (out .exit)) r ⌝ }
 {
     let w = walk_file(file);
     let o = w.outcome;

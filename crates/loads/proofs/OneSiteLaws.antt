@@ -1,7 +1,7 @@
 -- Two sites that are one site have the same terms: no term reads name or pair, nor an entry past the count.
 use mathlib.Core.Path.{_≡_}
 use Rattle.site.specs.declared.Site.{Site}
-use Rattle.loads.specs.OneSite.{OneSite}
+use Rattle.site.specs.OneSite.{OneSite}
 use Rattle.loads.specs.Weathering.{weathering, availableWeathering}
 use Rattle.loads.specs.Uptake.{standSum, nitrogenUptake, baseDemand, baseUptake}
 use Rattle.loads.specs.Supply.{baseSupply, aluminiumLimit}

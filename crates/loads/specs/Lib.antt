@@ -9,6 +9,5 @@ pub mod Nitrogen
 pub mod SiteTerms
 pub mod Hydrogen
 pub mod CriticalLoads
-pub mod OneSite
 pub mod LoadsConditions
 pub mod ExampleTerms

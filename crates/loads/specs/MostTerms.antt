@@ -1,6 +1,6 @@
 -- Upper bounds of the terms at a site that passes the check, and of the loads and sums made of them, each written once.
 use Prim.Native.Nat.{ℕ, _+_, _*_, _-_, _/_}
-use Rattle.site.specs.Ranges.{depthRange, percolationRange, mostEntries, shareRange, yieldRange, immobilisationRange, availableRange, baseDepositionRange, ratioRange, ceilingRange, leachateRange}
+use Rattle.site.specs.Ranges.{depthRange, percolationRange, mostEntries, shareRange, mostYield, immobilisationRange, availableRange, baseDepositionRange, ratioRange, ceilingRange, leachateRange}
 
 -- W, at class 20; 19500
 abbrev pub mostWeathering : ℕ
@@ -32,11 +32,11 @@ mostMaxS = mostSupply + mostHydrogen + mostA
 
 -- share × yield × content of one entry, for N and for Ca + Mg + K, with contents of two bytes
 abbrev pub mostNitrogenWeight : ℕ
-mostNitrogenWeight = shareRange .most * yieldRange .most * 65535
+mostNitrogenWeight = shareRange .most * mostYield * 65535
 
 abbrev pub mostBaseWeight : ℕ
-mostBaseWeight = shareRange .most * yieldRange .most * (3 * 65535)
+mostBaseWeight = shareRange .most * mostYield * (3 * 65535)
 
--- CLminN, though the shares of all entries add up to 100; 52928
+-- CLminN, without the use of the shares adding up to 100; 52928
 abbrev pub mostMinN : ℕ
 mostMinN = mostEntries * mostNitrogenWeight / 10000000 + immobilisationRange .most

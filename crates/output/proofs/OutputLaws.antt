@@ -4,12 +4,14 @@ use mathlib.Core.Path.{_≡_, refl}
 use mathlib.Core.Bool.{Bool, true, false}
 use lib.Dec.{leb}
 use native.Mathlib.Omega.{arith}
-use borrow.Author.Tests.{le-leb, lt-leb, leb-false}
+use borrow.Author.Tests.{le-leb, lt-leb, leb-true, leb-false}
 use Rattle.site.specs.Refusal.{andThen}
 use Rattle.site.specs.declared.Rule.{Rule}
 use Rattle.site.specs.declared.Rule.the-variants.{BufferShort}
 use Rattle.site.specs.declared.Checked.the-variants.{Passed, Broken}
 use Rattle.site.specs.declared.Checked.{Checked}
+use Rattle.site.specs.Choice.{pick}
+use Rattle.site.proofs.Passing.{pass-then, both-passed}
 use Rattle.output.specs.Output.{roomRule, outputRule}
 
 module _ (needed room : ℕ) where
@@ -45,6 +47,12 @@ module _ (needed room : ℕ) where
     pub output-short : own ≡ Passed → room < needed → outputRule own needed room ≡ Broken BufferShort
     unfolding outputRule andThen
     output-short e h = rw (e, room-short h)
+
+    pub output-passed : outputRule own needed room ≡ Passed → (own ≡ Passed) × (needed ≤ room)
+    unfolding outputRule roomRule
+    output-passed e =
+        let both = both-passed own (pick (leb needed room) Passed (Broken BufferShort)) e in
+        (both .0, leb-true needed room (pass-then (leb needed room) BufferShort Passed (both .1) .0))
 
     pub output-whole : own ≡ Passed → needed ≤ room → outputRule own needed room ≡ Passed
     unfolding outputRule andThen

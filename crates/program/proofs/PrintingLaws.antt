@@ -16,12 +16,12 @@ use Rattle.output.proofs.OutputLaws.{room-missing}
 use Rattle.listing.specs.Reports.{reportOf}
 use Rattle.listing.specs.PrintedDemand3.{Demand3}
 use Rattle.listing.proofs.ReportLaws.{report-take, report-says}
-use Rattle.program.specs.declared.Reading.{Reading}
-use Rattle.program.specs.declared.Reading.the-variants.{More, Ended, Failed}
+use Rattle.program.specs.declared.ReadState.{ReadState}
+use Rattle.program.specs.declared.ReadState.the-variants.{More, Ended, Failed}
 use Rattle.program.specs.Printing.{shownLength, outputOf, ReadFrom}
 
 -- the clauses of the call that answers
-abbrev pub Answers : (b d e : List ℕ) → Reading → ℕ → Type 0
+abbrev pub Answers : (b d e : List ℕ) → ReadState → ℕ → Type 0
 Answers b d e r k =
     ((k ≤ length e) × (k ≡ length (take k e)))
     × ((k ≡ length (outputOf r b))
@@ -32,17 +32,17 @@ Answers b d e r k =
 
 -- ---- nothing is printed
 
-not-ended : {f b : List ℕ} {r : Reading} {X : Type 0} → ((n : ℕ) → r ≡ Ended n → ⊥) → ReadFrom f b r → X
+not-ended : {f b : List ℕ} {r : ReadState} {X : Type 0} → ((n : ℕ) → r ≡ Ended n → ⊥) → ReadFrom f b r → X
 not-ended h x = absurd (h (x .count) (x .ended))
 
-silent : (b d : List ℕ) (r : Reading) → outputOf r b ≡ [] → ((n : ℕ) → r ≡ Ended n → ⊥) → Answers b d d r 0
+silent : (b d : List ℕ) (r : ReadState) → outputOf r b ≡ [] → ((n : ℕ) → r ≡ Ended n → ⊥) → Answers b d d r 0
 silent b d r e h = ((omega arith, refl), (rw e, (rw e, (λ _. (refl, refl), (λ f x. not-ended h x, λ f x. not-ended h x)))))
 
-pub after-failure : (b d : List ℕ) (r : Reading) → r ≡ Failed → Answers b d d r 0
+pub after-failure : (b d : List ℕ) (r : ReadState) → r ≡ Failed → Answers b d d r 0
 unfolding outputOf
 after-failure b d r e = silent b d r (rw e) (λ n q. let z : _≡_ {A = ℕ} 0 1 = cc in omega arith)
 
-pub before-the-end : (b d : List ℕ) (r : Reading) (k : ℕ) → r ≡ More k → Answers b d d r 0
+pub before-the-end : (b d : List ℕ) (r : ReadState) (k : ℕ) → r ≡ More k → Answers b d d r 0
 unfolding outputOf
 before-the-end b d r k e = silent b d r (rw e) (λ n q. let z : _≡_ {A = ℕ} 0 1 = cc in omega arith)
 
@@ -69,7 +69,7 @@ same-part n m b h = go (leb n (length b)) refl
         let l : length b < n = leb-false n (length b) t in
         take-all m b (omega arith) ∙ sym (take-all n b (omega arith))
 
-module _ (b d e : List ℕ) (r : Reading) (n m k : ℕ) (is : r ≡ Ended n) (part : m ≡ min n (length b)) (size : length b ≡ mostFile)
+module _ (b d e : List ℕ) (r : ReadState) (n m k : ℕ) (is : r ≡ Ended n) (part : m ≡ min n (length b)) (size : length b ≡ mostFile)
     (inside : (k ≤ length e) × (k ≡ length (take k e)))
     (answer : k ≡ shownLength (reportOf (take m b)) d)
     (buffer : e ≡ held (reportOf (take m b)) d)

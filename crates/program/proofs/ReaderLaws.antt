@@ -12,8 +12,8 @@ use mir.Syntax.{w64}
 use mir.Val.{SFits, Fits}
 use Rattle.site.specs.Choice.{pick}
 use Rattle.program.specs.declared.Input.{Input}
-use Rattle.program.specs.declared.Reading.{Reading}
-use Rattle.program.specs.declared.Reading.the-variants.{More, Ended, Failed}
+use Rattle.program.specs.declared.ReadState.{ReadState}
+use Rattle.program.specs.declared.ReadState.the-variants.{More, Ended, Failed}
 use Rattle.program.specs.Reads.{afterRead, onward, afterReads, ReadAll}
 
 -- ---- a signed number that is not below 0
@@ -68,7 +68,7 @@ module _ (size done : ℕ) where
 -- ---- one read after another
 
 -- numbers that reads may have given up to here
-pub record Reached (size : ℕ) (r : Reading) : Type 0 where
+pub record Reached (size : ℕ) (r : ReadState) : Type 0 where
   pub numbers : List ℤ
   pub reached : r ≡ afterReads size (More 0) numbers
 
@@ -76,17 +76,17 @@ pub none-yet : (size : ℕ) → Reached size (More 0)
 unfolding afterReads
 none-yet size = record { numbers = []; reached = refl }
 
-one-more : (size : ℕ) (r : Reading) (xs : List ℤ) (g : ℤ) → afterReads size r (xs ++ (g ∷ [])) ≡ onward size (afterReads size r xs) g
+one-more : (size : ℕ) (r : ReadState) (xs : List ℤ) (g : ℤ) → afterReads size r (xs ++ (g ∷ [])) ≡ onward size (afterReads size r xs) g
 unfolding afterReads
 one-more size r [] g = refl
 one-more size r (x ∷ xs) g = one-more size (onward size r x) xs g
 
-pub reached-next : {r : Reading} (size done : ℕ) (g : ℤ) → Reached size (More done) → r ≡ afterRead size done g → Reached size r
+pub reached-next : {r : ReadState} (size done : ℕ) (g : ℤ) → Reached size (More done) → r ≡ afterRead size done g → Reached size r
 unfolding onward
 reached-next size done g x e = record { numbers = x .numbers ++ (g ∷ []); reached = e ∙ rw (one-more size (More 0) (x .numbers) g, ← x .reached) }
 
 -- what the next step says of the bytes
-number-of : (size done : ℕ) (g : ℤ) (P : Reading → Type 0)
+number-of : (size done : ℕ) (g : ℤ) (P : ReadState → Type 0)
     → P Failed → P (Ended done) → ((k : ℕ) → 0 < k → done + k < size → P (More (done + k))) → P (Ended size) → P (afterRead size done g)
 unfolding afterRead
 number-of size done (negsuc k) P f e m l = f
@@ -113,21 +113,12 @@ more-is-later size done n g =
     (λ k h l e. let q : done + k ≡ n = cc in (omega arith, omega arith))
     (λ e. let z : _≡_ {A = ℕ} 0 1 = cc in absurd (omega arith))
 
-pub ends-inside : (size done n : ℕ) (g : ℤ) → done ≤ size → afterRead size done g ≡ Ended n → n ≤ size
-ends-inside size done n g h =
-    number-of size done g (λ r. r ≡ Ended n → n ≤ size)
-    (λ e. let z : _≡_ {A = ℕ} 0 1 = cc in absurd (omega arith))
-    (λ e. let q : done ≡ n = cc in omega arith)
-    (λ k p l e. let z : _≡_ {A = ℕ} 0 1 = cc in absurd (omega arith))
-    (λ e. let q : size ≡ n = cc in omega arith)
-
-pub all-read : (size done : ℕ) (i : Input) → done ≤ size → Reached size (More done)
+pub all-read : (size done : ℕ) (i : Input) → Reached size (More done)
     → i .reading ≡ afterRead size done (i .last) → ((n : ℕ) → i .reading ≡ More n → ⊥) → ReadAll size i
-all-read size done i h x e s = record {
+all-read size done i x e s = record {
   numbers = x .numbers;
   done = done;
   reached = sym (x .reached);
   next = e;
   stopped = s;
-  inside = λ n q. ends-inside size done n (i .last) h (sym e ∙ q);
 }

@@ -7,7 +7,7 @@ pub use reader::after_read;
 pub use reader::read_all;
 
 // Where the reading of a file stands, with how many bytes are read.
-pub enum Reading {
+pub enum ReadState {
     More(usize),
     Ended(usize),
     Failed,
@@ -15,6 +15,6 @@ pub enum Reading {
 
 // Where the reads have led, and the number that the last of them gave.
 pub struct Input {
-    pub reading: Reading,
+    pub reading: ReadState,
     pub last: isize,
 }

@@ -5,11 +5,11 @@ ghost use Prim.Native.Nat.{ℕ, _≤_, min};
 ghost use lib.ListN.{length, take, drop};
 ghost use Rattle.listing.specs.Reports.{reportOf};
 ghost use Rattle.listing.specs.PrintedDemand3.{Demand3};
-ghost use Rattle.program.specs.declared.Reading.the-variants.{Failed};
+ghost use Rattle.program.specs.declared.ReadState.the-variants.{Failed};
 ghost use Rattle.program.specs.Printing.{shownLength, outputOf, ReadFrom};
 ghost use Rattle.text.specs.TextLengths.{mostText};
 ghost use Rattle.output.specs.Output.{held};
-use crate::Reading;
+use crate::ReadState;
 use listing::report;
 use text::Listed;
 
@@ -35,7 +35,7 @@ fn shown(file: &[u8], out: &mut [u8]) -> usize
 
 // The report of what was read, where the reading has ended, and nothing otherwise; gives how many bytes to print. The file's buffer
 // has room for 500 records of the greatest length and a byte more, the output's for every listing.
-pub fn answer(file: &[u8; 129001], reading: Reading, out: &mut [u8; 81551]) -> usize
+pub fn answer(file: &[u8; 129001], reading: ReadState, out: &mut [u8; 81551]) -> usize
     ensures inside { λ r. ⌜ (r ≤ length (now (out .exit))) × (r ≡ length (take r (now (out .exit)))) ⌝ }
     ensures answer { λ r. ⌜ r ≡ length (outputOf reading (now (file .entry))) ⌝ }
     ensures buffer { λ _. ⌜ now (out .exit) ≡ outputOf reading (now (file .entry)) ++ drop (length (outputOf reading (now (file .entry)))) (now (out .entry)) ⌝ }
@@ -44,12 +44,12 @@ pub fn answer(file: &[u8; 129001], reading: Reading, out: &mut [u8; 81551]) -> u
     ensures demand3 { λ r. ⌜ ((f : List ℕ) → ReadFrom f (now (file .entry)) reading → Demand3 f (take r (now (out .exit)))) ⌝ }
 {
     match reading {
-        Reading::Ended(n) => {
+        ReadState::Ended(n) => {
             let bytes: &[u8] = file;
             let m = least(n, bytes.len());
             shown(&bytes[..m], out)
         }
-        Reading::More(_) => 0,
-        Reading::Failed => 0,
+        ReadState::More(_) => 0,
+        ReadState::Failed => 0,
     }
 }

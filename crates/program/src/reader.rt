@@ -1,10 +1,10 @@
-// Reading a file into a buffer.
+// ReadState a file into a buffer.
 ghost use mathlib.Core.Path.{_≡_};
 ghost use Prim.Native.Nat.{_-_, _≤_};
 ghost use lib.ListN.{length};
 ghost use Rattle.program.specs.Reads.{afterRead, ReadOnce, ReadAll};
 use crate::Input;
-use crate::Reading;
+use crate::ReadState;
 
 fn room_left(size: usize, done: usize) -> usize
     ensures { λ r. ⌜ r ≡ size - done ⌝ }
@@ -13,24 +13,24 @@ fn room_left(size: usize, done: usize) -> usize
 }
 
 // `done` bytes are in a buffer of `size`, and a read gave `got`.
-pub fn after_read(size: usize, done: usize, got: isize) -> Reading
+pub fn after_read(size: usize, done: usize, got: isize) -> ReadState
     ensures { λ r. ⌜ r ≡ afterRead size done got ⌝ }
 {
     if got < 0 {
-        return Reading::Failed;
+        return ReadState::Failed;
     }
     let n = got as usize;
     if n < 1 {
-        return Reading::Ended(done);
+        return ReadState::Ended(done);
     }
     let room = room_left(size, done);
     if n < room {
-        return Reading::More(done + n);
+        return ReadState::More(done + n);
     }
     if n == room {
-        return Reading::Ended(size);
+        return ReadState::Ended(size);
     }
-    Reading::Failed
+    ReadState::Failed
 }
 
 // One read, behind the bytes that are there.
@@ -51,7 +51,7 @@ pub fn read_all(buffer: &mut [u8]) -> Input
     loop {
         let input = read_once(buffer, done);
         let reading = input.reading;
-        let Reading::More(n) = reading else {
+        let ReadState::More(n) = reading else {
             return input;
         };
         done = n;

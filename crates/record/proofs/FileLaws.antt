@@ -8,11 +8,12 @@ use borrow.Author.Tests.{le-leb, lt-leb, leb-true, leb-false}
 use lib.Dec.{leb}
 use lib.ListN.{length, take, drop, length-take, length-drop, length-append, drop-of-length-le, take-append-drop}
 use lib.Seq.{drop-drop, drop-at}
+use Rattle.output.specs.Writing.{each}
 use Rattle.site.specs.Ranges.{mostRecords}
 use Rattle.site.specs.Choice.{pick}
 use Rattle.site.specs.declared.Rule.the-variants.{NoBytes, TooMany}
 use Rattle.record.specs.Result.{Result, good, fault}
-use Rattle.record.specs.File.{Contents, first, onto, walkFile, contentsBy, encodeAll}
+use Rattle.record.specs.File.{Contents, first, onto, walkFile, contentsBy}
 use Rattle.field.proofs.All.{All, none, _▸_}
 use Rattle.record.proofs.ResultLaws.{not-good, good-same}
 
@@ -129,10 +130,10 @@ module _ {A : Type 0} (read : List ℕ → ℕ → Result (A × ℕ)) (w : ℕ) 
 
 module _ {A : Type 0} (read : ℕ → Result (A × ℕ)) (encode : A → List ℕ) (f : List ℕ)
     (bytes : (at : ℕ) (x : A × ℕ) → read at ≡ good x → (at ≤ x .1) × (encode (x .0) ≡ take (x .1 - at) (drop at f))) where
-  pub contents-written : (xs : List A) → contentsBy read (length f) ≡ good xs → f ≡ encodeAll encode xs
-  unfolding encodeAll
+  pub contents-written : (xs : List A) → contentsBy read (length f) ≡ good xs → f ≡ each encode xs
+  unfolding each
   contents-written xs e =
-      walk-by read (length f) (λ n at xs. drop at f ≡ encodeAll encode xs)
+      walk-by read (length f) (λ n at xs. drop at f ≡ each encode xs)
       (λ n at h. drop-of-length-le f {i = at} h)
       (λ n at x xs h r p.
       let b = bytes at x r in
@@ -146,21 +147,21 @@ module _ {A : Type 0} (read : ℕ → Result (A × ℕ)) (encode : A → List �
 module _ {A : Type 0} (read : List ℕ → ℕ → Result (A × ℕ)) (encode : A → List ℕ) (clean : A → A) (Ok : A → Type 0)
     (some : (x : A) → 1 ≤ length (encode x))
     (reads : (x : A) → Ok x → (f : List ℕ) (at : ℕ) (rest : List ℕ) → drop at f ≡ encode x ++ rest → read f at ≡ good (clean x, at + length (encode x))) where
-  walk-read : (f : List ℕ) (xs : List A) → All Ok xs → (n at : ℕ) → length xs ≤ n → drop at f ≡ encodeAll encode xs
+  walk-read : (f : List ℕ) (xs : List A) → All Ok xs → (n at : ℕ) → length xs ≤ n → drop at f ≡ each encode xs
       → walkFile (read f) (length f) n at ≡ good (map clean xs)
-  unfolding encodeAll onto first
+  unfolding each onto first
   walk-read f [] none n at l e = walk-end (read f) (length f) n at (omega (arith, length-drop at f, ap length e))
   walk-read f (x ∷ xs) (p ▸ ps) zero at l e = absurd (omega arith)
   walk-read f (x ∷ xs) (p ▸ ps) (suc n) at l e =
-      let rest = encodeAll encode xs in
+      let rest = each encode xs in
       let m : length (drop at f) ≡ length (encode x) + length rest = ap length e ∙ length-append (encode x) rest in
       let d : drop (at + length (encode x)) f ≡ rest = sym (drop-drop (length (encode x)) at f) ∙ rw e (drop-at (encode x) rest (length (encode x)) refl) in
       rw (walk-step (read f) (length f) n at (omega (arith, length-drop at f, some x)), reads x p f at rest e, walk-read f xs ps n (at + length (encode x)) (omega arith) d)
 
   pub contents-read : (xs : List A) → All Ok xs → 1 ≤ length xs → length xs ≤ mostRecords
-      → contentsBy (read (encodeAll encode xs)) (length (encodeAll encode xs)) ≡ good (map clean xs)
-  unfolding encodeAll
+      → contentsBy (read (each encode xs)) (length (each encode xs)) ≡ good (map clean xs)
+  unfolding each
   contents-read [] ps h l = absurd (omega arith)
   contents-read (x ∷ xs) ps h l =
-      let f = encode x ++ encodeAll encode xs in
+      let f = encode x ++ each encode xs in
       contents-some (read f) (length f) (simp length-append (omega (arith, some x))) ∙ walk-read f (x ∷ xs) ps mostRecords 0 l refl

@@ -6,7 +6,7 @@ use mathlib.Core.Logic.{_⊎_, inl, inr, ⊎-elim}
 use mathlib.Core.List.{List, [], _∷_}
 use native.Mathlib.Omega.{arith}
 use native.Mathlib.Nat.{mul-le-mul-left}
-use borrow.Author.Tests.{eqb-false, leb-true, leb-false}
+use borrow.Author.Tests.{eqb-true, eqb-false, leb-true, leb-false}
 use lib.Dec.{leb, eqb}
 use lib.ListN.{getD, length, length-take, length-drop}
 use Rattle.site.specs.Choice.{pick}
@@ -20,9 +20,9 @@ use Rattle.field.specs.Kind.{Kind, fieldRule}
 use Rattle.record.specs.Result.{Result, good, fault, unless}
 use Rattle.record.specs.FieldParts.{statedLen, valueAt, restAt}
 use Rattle.record.specs.Fields.{headRule, walkFields, fieldsIn}
-use Rattle.record.specs.Records.{mostRecord, outerRule, ending, recordIn}
+use Rattle.record.specs.Records.{mostRecord, outerRule, ending, recordIn, onlyOne, single}
 use Rattle.record.specs.File.{Contents, first, onto, walkFile, contentsBy}
-use Rattle.record.specs.FirstFault.{FieldsAccepted, none, next, FirstField, OuterBroken, InnerBroken, RecordsAccepted, RecordBroken, OneTooMany, FirstFault}
+use Rattle.record.specs.FirstFault.{FieldsAccepted, none, next, FirstField, OuterBroken, InnerBroken, RecordsAccepted, RecordBroken, OneTooMany, FirstFault, FirstSingle}
 use Rattle.record.proofs.WalkLaws.{head-passed}
 use Rattle.record.proofs.RecordLaws.{outer-passed}
 
@@ -156,6 +156,24 @@ module _ {A : Type 0} (read : ℕ → Result (A × ℕ)) (len : ℕ) (rule : Rul
       by-end : Again → (b : Bool) → leb len from ≡ b → pick b (good []) (onto (read from) (walkFile read len most)) ≡ fault rule at → FirstFault read len (suc most) from rule at
       by-end again true q e = not-fault e
       by-end again false q e = by-record again q (read from) refl e
+
+  -- a file of at most one record
+  pub first-in-single : single read len ≡ fault rule at → ((len ≡ 0) × (rule ≡ NoBytes) × (at ≡ 0)) ⊎ FirstSingle read len rule at
+  unfolding single onlyOne
+  first-in-single e = by-length (eqb len 0) refl e
+    where
+      by-end : (x : A × ℕ) → read 0 ≡ good x → (b : Bool) → eqb (x .1) len ≡ b → _≡_ {A = Result A} (pick b (good (x .0)) (fault TooMany (x .1))) (fault rule at) → FirstSingle read len rule at
+      by-end x r true q e = not-fault e
+      by-end x r false q e = inr (record { found = x; reads = r; left = eqb-false (x .1) len q; broken = sym (fault-rule e); offset = sym (fault-at e) })
+
+      by-record : (q : Result (A × ℕ)) → read 0 ≡ q → onlyOne len q ≡ fault rule at → FirstSingle read len rule at
+      by-record (fault k i) r e = inl (r ∙ rw (fault-rule e, fault-at e))
+      by-record (good x) r e = by-end x r (eqb (x .1) len) refl e
+
+      by-length : (b : Bool) → eqb len 0 ≡ b → pick b (fault NoBytes 0) (onlyOne len (read 0)) ≡ fault rule at
+          → ((len ≡ 0) × (rule ≡ NoBytes) × (at ≡ 0)) ⊎ FirstSingle read len rule at
+      by-length true q e = inl (eqb-true len 0 q, sym (fault-rule e), sym (fault-at e))
+      by-length false q e = inr (by-record (read 0) refl e)
 
   -- 1 to 500 records: no bytes, or the first fault from the left
   pub first-in-file : contentsBy read len ≡ fault rule at → ((len ≡ 0) × (rule ≡ NoBytes) × (at ≡ 0)) ⊎ FirstFault read len mostRecords 0 rule at

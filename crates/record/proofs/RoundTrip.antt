@@ -26,7 +26,7 @@ use Rattle.record.specs.Writer.{encode}
 use Rattle.record.proofs.EncodeLaws.{length-encode}
 use Rattle.record.proofs.ResultLaws.{read-good, accepted-good, read-numbers}
 use Rattle.record.proofs.RecordLaws.{single-good, good-single}
-use Rattle.record.proofs.Place.{site-near, site-fault-near, site-passes, site-sized, site-clean, site-bytes, site-read}
+use Rattle.record.proofs.Place.{site-near, site-fault-near, site-passes, site-clean, site-bytes, site-read}
 
 -- ---- what is written is read
 
@@ -47,12 +47,9 @@ module _ (s : Site) (f : List ℕ) (e : readRecord f ≡ accepted s) where
   unfolding readRecord
   whole = single-good (siteAt f) (length f) (accepted-good _ e)
 
-  -- a site that was read passes the check, its arrays have their lengths, and past the name and the entries stand zeros
+  -- a site that was read passes the check, and past the name and the entries stand zeros
   pub read-passes : siteRule s ≡ Passed
   read-passes = site-passes f 0 whole
-
-  pub read-sized : Sized s
-  read-sized = site-sized f 0 whole
 
   pub read-clean : clean s ≡ s
   read-clean = site-clean f 0 whole

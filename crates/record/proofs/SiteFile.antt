@@ -4,7 +4,8 @@ use mathlib.Core.Path.{_≡_, sym, _∙_}
 use mathlib.Core.Logic.{_⊎_}
 use mathlib.Core.List.{List, map}
 use native.Mathlib.Omega.{arith}
-use lib.ListN.{length, take}
+use lib.ListN.{length, take, drop}
+use Rattle.output.specs.Writing.{each}
 use Rattle.site.specs.Ranges.{mostRecords}
 use Rattle.site.specs.declared.Site.{Site}
 use Rattle.site.specs.declared.Rule.{Rule}
@@ -13,16 +14,16 @@ use Rattle.site.specs.declared.Checked.the-variants.{Passed}
 use Rattle.site.specs.Check.{siteRule}
 use Rattle.record.specs.Result.{good, fault}
 use Rattle.field.specs.Field.{siteKind}
-use Rattle.record.specs.Outer.{siteAt}
+use Rattle.record.specs.Outer.{siteTag, siteKinds, siteAt, onlySite}
 use Rattle.record.specs.Records.{mostRecord}
-use Rattle.record.specs.FirstFault.{FirstFault}
-use Rattle.record.specs.File.{walkFile, contents, mostFile, encodeAll}
+use Rattle.record.specs.FirstFault.{OuterBroken, InnerBroken, FirstFault, FirstSingle}
+use Rattle.record.specs.File.{walkFile, contents, mostFile}
 use Rattle.field.specs.Clean.{clean, Sized, AllBytes}
 use Rattle.record.specs.Writer.{encode}
 use Rattle.field.proofs.All.{All}
 use Rattle.record.proofs.EncodeLaws.{length-encode}
 use Rattle.record.proofs.FileLaws.{contents-none, contents-some, contents-every, contents-more, contents-written, contents-read}
-use Rattle.record.proofs.FirstFaultLaws.{first-in-file, file-fault-near}
+use Rattle.record.proofs.FirstFaultLaws.{first-in-record, first-in-file, first-in-single, file-fault-near}
 use Rattle.record.proofs.Place.{site-take, site-fault-near, site-near, site-after, site-passes, site-bytes, site-read}
 
 module _ (f : List ℕ) where
@@ -40,7 +41,18 @@ module _ (f : List ℕ) where
   unfolding contents
   sites-first-fault {rule} {at} e = first-in-file (siteAt f) (length f) rule at e
 
-  -- and lies at most 500 records of the greatest length from the start
+  -- of a single record too
+  pub single-first-fault : {rule : Rule} {at : ℕ} → onlySite f ≡ fault rule at
+      → ((length f ≡ 0) × (rule ≡ NoBytes) × (at ≡ 0)) ⊎ FirstSingle (siteAt f) (length f) rule at
+  single-first-fault {rule} {at} e = first-in-single (siteAt f) (length f) rule at e
+
+  -- and within the record that starts at an offset
+  pub site-first-fault : (start : ℕ) {rule : Rule} {at : ℕ} → siteAt f start ≡ fault rule at
+      → OuterBroken siteTag (drop start f) start rule at ⊎ InnerBroken siteTag siteKind (drop start f) start rule at
+  unfolding siteAt
+  site-first-fault start {rule} {at} e = first-in-record siteTag siteKinds (drop start f) start rule at e
+
+  -- a fault of a file lies at most 500 records of the greatest length from the start
   pub sites-fault-near : {rule : Rule} {at : ℕ} → contents f ≡ fault rule at → at ≤ mostRecord * mostRecords
   unfolding contents
   sites-fault-near e = file-fault-near (siteAt f) mostRecord (λ at x r. site-near f at r) (λ at rule i r. site-fault-near f at r) (length f) e
@@ -55,13 +67,13 @@ module _ (f : List ℕ) where
   sites-more m h = contents-more siteAt mostRecord site-take (λ g at x r. site-near g at r) f m (omega arith)
 
   -- a file that passes is the records of its sites, one after another
-  pub sites-written : AllBytes f → (ss : List Site) → contents f ≡ good ss → f ≡ encodeAll encode ss
+  pub sites-written : AllBytes f → (ss : List Site) → contents f ≡ good ss → f ≡ each encode ss
   unfolding contents
   sites-written b ss e = contents-written (siteAt f) encode f (λ at x r. (omega (arith, site-after f at r), site-bytes f at r b)) ss e
 
 -- 1 to 500 sites that pass, encoded one after another, are read back, with zeros past their names and entries
 pub sites-read : (ss : List Site) → All (λ s. Sized s × (siteRule s ≡ Passed)) ss → 1 ≤ length ss → length ss ≤ mostRecords
-    → contents (encodeAll encode ss) ≡ good (map clean ss)
+    → contents (each encode ss) ≡ good (map clean ss)
 unfolding contents siteAt
 sites-read ss ok h l =
     contents-read siteAt encode clean (λ s. Sized s × (siteRule s ≡ Passed)) (λ s. omega (arith, length-encode siteKind s))

@@ -1,6 +1,6 @@
 -- A file of records, walked from the left; the first fault decides. For every kind of record.
 use Prim.Native.Nat.{ℕ, zero, suc, _+_, _*_}
-use mathlib.Core.List.{List, [], _∷_, _++_}
+use mathlib.Core.List.{List, [], _∷_}
 use lib.Dec.{leb}
 use lib.ListN.{length}
 use Rattle.site.specs.Ranges.{mostRecords}
@@ -43,8 +43,3 @@ mostFile = mostRecords * mostRecord + 1
 -- a file of site records
 unfoldable pub contents : List ℕ → Contents Site
 contents f = contentsBy (siteAt f) (length f)
-
--- values encoded one after another
-unfoldable pub encodeAll : {A : Type 0} → (A → List ℕ) → List A → List ℕ
-encodeAll encode [] = []
-encodeAll encode (x ∷ xs) = encode x ++ encodeAll encode xs

@@ -49,7 +49,7 @@ pub record OuterBroken (known : ℕ → Bool) (bs : List ℕ) (start : ℕ) (rul
   pub broken : outerRule known bs ≡ Broken rule
   pub offset : at ≡ start
 
--- or a field inside does
+-- its outer field passes, and a field inside it breaks the rule
 pub record InnerBroken {A : Type 0} (known : ℕ → Bool) (K : Kind A) (bs : List ℕ) (start : ℕ) (rule : Rule) (at : ℕ) : Type 0 where
   pub outer : outerRule known bs ≡ Passed
   pub inner : FirstField K (K .due) (K .blank) (valueAt bs) (start + 3) rule at
@@ -59,12 +59,12 @@ pub data RecordsAccepted {A : Type 0} (read : ℕ → Result (A × ℕ)) : ℕ �
   none : {at : ℕ} → RecordsAccepted read at [] at
   next : {at end : ℕ} {xs : List A} (x : A × ℕ) → read at ≡ good x → RecordsAccepted read (x .1) xs end → RecordsAccepted read at (x .0 ∷ xs) end
 
--- fewer records than may come are before it, and the record is faulty
+-- fewer than `most` records come before, and the record at `start` has the fault
 pub record RecordBroken {A : Type 0} (read : ℕ → Result (A × ℕ)) (most : ℕ) (before : List A) (start : ℕ) (rule : Rule) (at : ℕ) : Type 0 where
   pub few : length before < most
   pub broken : read start ≡ fault rule at
 
--- all that may come are before it
+-- `most` records come before, and a byte is left: 4 at that byte
 pub record OneTooMany {A : Type 0} (most : ℕ) (before : List A) (start : ℕ) (rule : Rule) (at : ℕ) : Type 0 where
   pub many : length before ≡ most
   pub broken : rule ≡ TooMany
@@ -77,3 +77,15 @@ pub record FirstFault {A : Type 0} (read : ℕ → Result (A × ℕ)) (len most 
   pub accepted : RecordsAccepted read from before start
   pub left : start < len
   pub here : RecordBroken read most before start rule at ⊎ OneTooMany most before start rule at
+
+-- in a file of at most one record: bytes stand after an accepted one, 4 at the first of them
+pub record BytesAfter {A : Type 0} (read : ℕ → Result (A × ℕ)) (len : ℕ) (rule : Rule) (at : ℕ) : Type 0 where
+  pub found : A × ℕ
+  pub reads : read 0 ≡ good found
+  pub left : found .1 ≡ len → ⊥
+  pub broken : rule ≡ TooMany
+  pub offset : at ≡ found .1
+
+-- the fault of a file of at most one record that has bytes: the record's own, or bytes after it
+abbrev pub FirstSingle : {A : Type 0} → (ℕ → Result (A × ℕ)) → (len : ℕ) → Rule → (at : ℕ) → Type 0
+FirstSingle read len rule at = (read 0 ≡ fault rule at) ⊎ BytesAfter read len rule at

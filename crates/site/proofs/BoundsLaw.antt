@@ -15,7 +15,7 @@ use Rattle.site.specs.declared.Rule.the-variants.{OutOfRange}
 use Rattle.site.specs.declared.Checked.the-variants.{Passed}
 use Rattle.site.specs.Bounds.{noEntry, EntryBounds, StandBounds, Bounds}
 use Rattle.site.specs.Check.{siteRule}
-use Rattle.site.specs.Ranges.{parentRange, mostTexture, depthRange, drainageRange, percolationRange, speciesRange, shareRange, yieldRange, immobilisationRange, availableRange, baseDepositionRange, ratioRange, gibbsiteRange, ceilingRange, leachateRange}
+use Rattle.site.specs.Ranges.{parentRange, mostTexture, depthRange, drainageRange, percolationRange, mostSpecies, shareRange, mostYield, immobilisationRange, availableRange, baseDepositionRange, ratioRange, gibbsiteRange, ceilingRange, leachateRange}
 use Rattle.site.specs.Values.{due, countRule, itemCount, valueRule, standRule, entryRanged, allOf, inside}
 use Rattle.site.proofs.Tests.{le-or-lt, and-l, and-r}
 use Rattle.site.proofs.Passing.{pass-then, ranged-passed, inside-both, between-passed}
@@ -26,14 +26,14 @@ use Rattle.site.proofs.FieldLaws.{site-passed}
 pub entry-bounds : (e : Entry) → entryRanged e ≡ true → EntryBounds e
 unfolding entryRanged
 entry-bounds e p =
-    let species = leb (e .species) (speciesRange .most) in
+    let species = leb (e .species) mostSpecies in
     let share = inside shareRange (e .share) in
-    let yielded = leb (e .«yield_kg») (yieldRange .most) in
+    let yielded = leb (e .«yield_kg») mostYield in
     let both = and-l (species && share) yielded p in
     record {
-      species = leb-true (e .species) (speciesRange .most) (and-l species share both);
+      species = leb-true (e .species) mostSpecies (and-l species share both);
       share = inside-both shareRange (e .share) (and-r species share both) .1;
-      yielded = leb-true (e .«yield_kg») (yieldRange .most) (and-r (species && share) yielded p);
+      yielded = leb-true (e .«yield_kg») mostYield (and-r (species && share) yielded p);
     }
 
 no-entry-bounds : EntryBounds noEntry

@@ -1,45 +1,42 @@
 -- The check of a site value, or of a field of it, gives no other rule than 7 to 10: a test of the rule, which holds of every branch.
-use mathlib.Core.Path.{_≡_, refl, ap, _∙_}
-use mathlib.Core.Logic.{_⊎_, inl, inr}
-use mathlib.Core.Bool.{Bool, true, false, _&&_}
+use mathlib.Core.Path.{_≡_, refl}
+use mathlib.Core.Bool.{Bool, true, false, _&&_, false≢true}
 use mathlib.Core.List.{List, [], _∷_}
-use Prim.Native.Nat.{ℕ, _≤_}
+use Prim.Native.Nat.{ℕ}
 use lib.Dec.{leb, eqb}
-use borrow.Author.Tests.{leb-true}
 use Rattle.site.specs.declared.Site.{Site}
 use Rattle.site.specs.declared.Entry.{Entry}
-use Rattle.site.specs.declared.Rule.the-variants.{BadLength, OutOfRange}
+use Rattle.site.specs.declared.Rule.the-variants.{NoBytes, OuterCut, OuterTag, TooMany, InnerCut, InnerTag, BadLength, OutOfRange, NotRising, SharesNotWhole, BufferShort}
 use Rattle.site.specs.declared.Checked.{Checked}
 use Rattle.site.specs.declared.Checked.the-variants.{Passed, Broken}
 use Rattle.site.specs.Choice.{pick}
-use Rattle.site.specs.Refusal.{ruleNumber, checkedNumber, Numbered, andThen}
+use Rattle.site.specs.Refusal.{ruleNumber, checkedNumber, Numbered, passes, bad-length, out-of-range, not-rising, shares-not-whole, andThen}
 use Rattle.site.specs.Ranges.{Range}
 use Rattle.site.specs.Values.{itemsOf, itemCount, countRule, ranged, inside, between, entryRanged, risingFrom, sharesOf, orderRule, standRule, valueRules, valueRule, allOf}
 use Rattle.site.specs.Check.{fieldsRule, siteRule}
-use Rattle.site.proofs.Tests.{and-l, and-r}
 use Rattle.site.proofs.PartLaws.{all-getD}
 
 unfoldable pub known : Checked → Bool
 known Passed = true
 known (Broken r) = leb 7 (ruleNumber r) && leb (ruleNumber r) 10
 
-no-other : (c : Checked) → known c ≡ true → (checkedNumber c ≡ 0) ⊎ ((7 ≤ checkedNumber c) × (checkedNumber c ≤ 10))
+number-of : (c : Checked) → known c ≡ true → Numbered c (checkedNumber c)
 unfolding known checkedNumber
-no-other Passed e = inl refl
-no-other (Broken r) e =
-    let n = ruleNumber r in
-    inr (leb-true 7 n (and-l (leb 7 n) (leb n 10) e), leb-true n 10 (and-r (leb 7 n) (leb n 10) e))
+number-of Passed e = passes
+number-of (Broken NoBytes) e = absurd (false≢true e)
+number-of (Broken OuterCut) e = absurd (false≢true e)
+number-of (Broken OuterTag) e = absurd (false≢true e)
+number-of (Broken TooMany) e = absurd (false≢true e)
+number-of (Broken InnerCut) e = absurd (false≢true e)
+number-of (Broken InnerTag) e = absurd (false≢true e)
+number-of (Broken BadLength) e = bad-length
+number-of (Broken OutOfRange) e = out-of-range
+number-of (Broken NotRising) e = not-rising
+number-of (Broken SharesNotWhole) e = shares-not-whole
+number-of (Broken BufferShort) e = absurd (false≢true e)
 
 pub numbered : (a b : Checked) → a ≡ b → known b ≡ true → Numbered b (checkedNumber a)
-unfolding checkedNumber
-numbered a b e k = record {
-  passed = λ p. ap checkedNumber (e ∙ p);
-  bad-length = λ p. ap checkedNumber (e ∙ p);
-  out-of-range = λ p. ap checkedNumber (e ∙ p);
-  not-rising = λ p. ap checkedNumber (e ∙ p);
-  shares-not-whole = λ p. ap checkedNumber (e ∙ p);
-  no-other = rw e (no-other b k);
-}
+numbered a b e k = rw e (number-of b k)
 
 pub known-pick : (t : Bool) (a b : Checked) → known a ≡ true → known b ≡ true → known (pick t a b) ≡ true
 known-pick true a b p q = p

@@ -4,16 +4,16 @@ use mathlib.Core.List.{List}
 use lib.ListN.{getD}
 use Rattle.site.specs.declared.Site.{Site}
 use Rattle.site.specs.declared.Entry.{Entry}
-use Rattle.site.specs.Ranges.{parentRange, mostTexture, depthRange, drainageRange, percolationRange, mostEntries, speciesRange, shareRange, yieldRange, immobilisationRange, availableRange, baseDepositionRange, ratioRange, gibbsiteRange, ceilingRange, leachateRange}
+use Rattle.site.specs.Ranges.{parentRange, mostTexture, depthRange, drainageRange, percolationRange, mostEntries, mostSpecies, shareRange, mostYield, immobilisationRange, availableRange, baseDepositionRange, ratioRange, gibbsiteRange, ceilingRange, leachateRange}
 
 -- what stands past the end of a stand
 abbrev pub noEntry : Entry
 noEntry = record { species = 0; share = 0; «yield_kg» = 0 }
 
 pub record EntryBounds (e : Entry) : Type 0 where
-  pub species : e .species ≤ speciesRange .most
+  pub species : e .species ≤ mostSpecies
   pub share : e .share ≤ shareRange .most
-  pub yielded : e .«yield_kg» ≤ yieldRange .most
+  pub yielded : e .«yield_kg» ≤ mostYield
 
 -- the first n entries of a stand
 pub record StandBounds (stand : List Entry) (n : ℕ) : Type 0 where

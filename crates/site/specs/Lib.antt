@@ -6,4 +6,5 @@ pub mod Check
 pub mod ByCheck
 pub mod Bytes
 pub mod Bounds
+pub mod OneSite
 pub mod ExampleSite

@@ -33,14 +33,14 @@ percolationRange = record { least = 1; most = 3000 }
 abbrev pub mostEntries : ℕ
 mostEntries = 4
 
-abbrev pub speciesRange : Range
-speciesRange = record { least = 0; most = 8 }
+abbrev pub mostSpecies : ℕ
+mostSpecies = 8
 
 abbrev pub shareRange : Range
 shareRange = record { least = 1; most = 100 }
 
-abbrev pub yieldRange : Range
-yieldRange = record { least = 0; most = 20000 }
+abbrev pub mostYield : ℕ
+mostYield = 20000
 
 -- 08 immobilisation Ni
 abbrev pub immobilisationRange : Range

@@ -1,7 +1,5 @@
 -- Document 01, "Where each check stands": the refusals by number.
-use Prim.Native.Nat.{ℕ, _≤_}
-use mathlib.Core.Path.{_≡_}
-use mathlib.Core.Logic.{_⊎_}
+use Prim.Native.Nat.{ℕ}
 use mathlib.Core.List.{List, [], _∷_}
 use Rattle.site.specs.declared.Rule.{Rule}
 use Rattle.site.specs.declared.Rule.the-variants.{NoBytes, OuterCut, OuterTag, TooMany, InnerCut, InnerTag, BadLength, OutOfRange, NotRising, SharesNotWhole, BufferShort}
@@ -26,14 +24,13 @@ unfoldable pub checkedNumber : Checked → ℕ
 checkedNumber Passed = 0
 checkedNumber (Broken r) = ruleNumber r
 
--- n is the number of what the check of a site value or of a field says: 0 where it passes, else 7 to 10
-pub record Numbered (c : Checked) (n : ℕ) : Type 0 where
-  pub passed : c ≡ Passed → n ≡ 0
-  pub bad-length : c ≡ Broken BadLength → n ≡ 7
-  pub out-of-range : c ≡ Broken OutOfRange → n ≡ 8
-  pub not-rising : c ≡ Broken NotRising → n ≡ 9
-  pub shares-not-whole : c ≡ Broken SharesNotWhole → n ≡ 10
-  pub no-other : (n ≡ 0) ⊎ ((7 ≤ n) × (n ≤ 10))
+-- the number of what the check of a site value or of a field says: 0, or 7 to 10; no other rule can come
+pub data Numbered : Checked → ℕ → Type 0 where
+  passes : Numbered Passed 0
+  bad-length : Numbered (Broken BadLength) 7
+  out-of-range : Numbered (Broken OutOfRange) 8
+  not-rising : Numbered (Broken NotRising) 9
+  shares-not-whole : Numbered (Broken SharesNotWhole) 10
 
 -- the first of two checks that is broken
 unfoldable pub andThen : Checked → Checked → Checked

@@ -5,7 +5,7 @@ use mathlib.Core.List.{List, [], _∷_}
 use lib.Dec.{leb, eqb}
 use lib.ListN.{getD, take}
 use Rattle.site.specs.Choice.{pick}
-use Rattle.site.specs.Ranges.{Range, mostName, parentRange, mostTexture, depthRange, drainageRange, percolationRange, mostEntries, speciesRange, shareRange, yieldRange, immobilisationRange, availableRange, baseDepositionRange, ratioRange, gibbsiteRange, ceilingRange, leachateRange}
+use Rattle.site.specs.Ranges.{Range, mostName, parentRange, mostTexture, depthRange, drainageRange, percolationRange, mostEntries, mostSpecies, shareRange, mostYield, immobilisationRange, availableRange, baseDepositionRange, ratioRange, gibbsiteRange, ceilingRange, leachateRange}
 use Rattle.site.specs.declared.Site.{Site}
 use Rattle.site.specs.declared.Entry.{Entry}
 use Rattle.site.specs.declared.length.Items.{Items}
@@ -17,7 +17,7 @@ use Rattle.site.specs.declared.Checked.the-variants.{Passed, Broken}
 abbrev pub due : List ℕ
 due = 1 ∷ 2 ∷ 3 ∷ 4 ∷ 5 ∷ 6 ∷ 7 ∷ 8 ∷ 9 ∷ 10 ∷ 11 ∷ 12 ∷ 13 ∷ 14 ∷ 15 ∷ []
 
--- a field holds items, the bytes of the name, the entries of the stand, else one value: here of w bytes each, at most n
+-- a field holds at least one and at most n items of w bytes each: the name its bytes, the stand its entries, every other field one value
 abbrev items : ℕ → ℕ → Items
 items w n = record { width = w; most = n }
 
@@ -78,7 +78,7 @@ unfoldable pub between : Range → ℕ → Checked
 between r x = ranged (inside r x)
 
 unfoldable pub entryRanged : Entry → Bool
-entryRanged e = leb (e .species) (speciesRange .most) && inside shareRange (e .share) && leb (e .«yield_kg») (yieldRange .most)
+entryRanged e = leb (e .species) mostSpecies && inside shareRange (e .share) && leb (e .«yield_kg») mostYield
 
 -- species rise strictly, the first at least lo
 unfoldable pub risingFrom : ℕ → List Entry → Bool

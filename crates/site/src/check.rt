@@ -7,7 +7,7 @@ ghost use Rattle.site.specs.Refusal.{andThen, checkedNumber, Numbered};
 use crate::Checked;
 use crate::Site;
 use crate::length::count_rule;
-use crate::value::field_rule;
+use crate::value::value_rule;
 
 // The first that is broken.
 fn both(a: Checked, b: Checked) -> Checked
@@ -24,7 +24,7 @@ fn check_field(site: Site, tag: u8, later: Checked) -> Checked
     ensures { λ r. ⌜ ((ts : List ℕ) → later ≡ fieldsRule ts site → r ≡ fieldsRule (tag ∷ ts) site) ⌝ }
 {
     let count = count_rule(site, tag);
-    let value = field_rule(site, tag);
+    let value = value_rule(site, tag);
     both(both(count, value), later)
 }
 

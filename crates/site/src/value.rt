@@ -18,7 +18,7 @@ use crate::ranges::ratio_rule;
 use crate::ranges::texture_rule;
 use crate::stand::stand_rule;
 
-pub fn field_rule(site: Site, tag: u8) -> Checked
+pub fn value_rule(site: Site, tag: u8) -> Checked
     ensures { λ r. ⌜ r ≡ valueRule tag site ⌝ }
 {
     match tag {

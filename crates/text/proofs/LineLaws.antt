@@ -12,7 +12,7 @@ use Rattle.output.specs.Writing.{each}
 use Rattle.judgement.specs.Verdicts.{verdictWord}
 use Rattle.text.specs.Line.{numbersOf, nameText, spaced, column, body, line}
 use Rattle.text.specs.Listing.{headText, header, listing}
-use Rattle.text.specs.RefusalLine.{refusal, numbered, refusedWord, atWord}
+use Rattle.text.specs.RefusalLine.{refusal, refusedLine, refusedWord, atWord}
 
 pub length-line : (r : Row) → length (line r) ≡ length (nameText r) + length (each column (numbersOf r)) + length (verdictWord (r .verdict)) + 2
 unfolding line body spaced
@@ -22,10 +22,10 @@ pub length-listing : (rs : List Row) → length (listing rs) ≡ 51 + length (ea
 unfolding listing header headText
 length-listing rs = omega arith
 
-pub length-refusal : (n at : ℕ) → length (numbered n at) ≡ 13 + length (decimal n) + length (decimal at)
-unfolding numbered refusedWord atWord
+pub length-refusal : (n at : ℕ) → length (refusedLine n at) ≡ 13 + length (decimal n) + length (decimal at)
+unfolding refusedLine refusedWord atWord
 length-refusal n at = simp length-append (omega arith)
 
-pub refusal-is : (rule : Rule) (at : ℕ) {n : ℕ} → n ≡ ruleNumber rule → numbered n at ≡ refusal rule at
+pub refusal-is : (rule : Rule) (at : ℕ) {n : ℕ} → n ≡ ruleNumber rule → refusedLine n at ≡ refusal rule at
 unfolding refusal
-refusal-is rule at e = ap (λ (k : ℕ). numbered k at) e
+refusal-is rule at e = ap (λ (k : ℕ). refusedLine k at) e

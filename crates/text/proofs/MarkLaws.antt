@@ -75,6 +75,10 @@ line-count rs h = ap length (listing-lines rs h) ∙ count-body rs
     count-body [] = refl
     count-body (r ∷ rs) = omega (arith, count-body rs)
 
+pub line-header : (rs : List Row) → Plain rs → lineAt 0 (listing rs) ≡ headText
+unfolding lineAt
+line-header rs h = ap (λ (t : List (List ℕ)). getD t 0 []) (listing-lines rs h)
+
 pub line-behind : (rs : List Row) → Plain rs → lineAt (length rs + 1) (listing rs) ≡ []
 unfolding lineAt
 line-behind rs h = ap (λ (t : List (List ℕ)). getD t (length rs + 1) []) (listing-lines rs h) ∙ rw (add-one) (past-body rs)

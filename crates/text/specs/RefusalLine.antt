@@ -12,8 +12,8 @@ refusedWord = 114 ∷ 101 ∷ 102 ∷ 117 ∷ 115 ∷ 101 ∷ 100 ∷ 32 ∷ []
 unfoldable pub atWord : List ℕ
 atWord = 32 ∷ 97 ∷ 116 ∷ 32 ∷ []
 
-unfoldable pub numbered : ℕ → ℕ → List ℕ
-numbered n at = refusedWord ++ decimal n ++ atWord ++ decimal at ++ (10 ∷ [])
+unfoldable pub refusedLine : ℕ → ℕ → List ℕ
+refusedLine n at = refusedWord ++ decimal n ++ atWord ++ decimal at ++ (10 ∷ [])
 
 unfoldable pub refusal : Rule → ℕ → List ℕ
-refusal rule at = numbered (ruleNumber rule) at
+refusal rule at = refusedLine (ruleNumber rule) at

@@ -2,7 +2,7 @@
 use Prim.Native.Nat.{ℕ, _+_, _*_}
 use Rattle.site.specs.Ranges.{mostRecords}
 
--- a line: a name of 8 bytes, seven numbers of 20 digits, and the mark
+-- a line: 8 for the name, 7 × 21 for a space and 20 digits, 7 for a space and the mark, 1 for 0A
 abbrev pub mostLine : ℕ
 mostLine = 163
 

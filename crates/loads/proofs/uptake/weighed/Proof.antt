@@ -1,6 +1,6 @@
 use Prim.Native.Nat.{_+_, _*_, _≤_}
 use native.Mathlib.Omega.{arith}
-use Rattle.site.specs.Ranges.{shareRange, yieldRange}
+use Rattle.site.specs.Ranges.{shareRange, mostYield}
 use Rattle.loads.specs.Uptake.{content, weightOf, nitrogenIn, baseIn}
 use Rattle.loads.proofs.Numbers.{prod}
 use borrow.Author.Needs.{needs}
@@ -11,7 +11,7 @@ use Rattle.loads.proofs.uptake.weighed.Tie as tie
 yielded-le : (c : tie.After-wide16) → (c .before .wide8 .result) * (c .wide16 .result) ≤ 2000000
 yielded-le c =
     let b = c .before .before .before .before .pre in
-    prod (shareRange .most) (yieldRange .most) (rw (c .before .wide8 .ensures) (b .share)) (rw (c .wide16 .ensures .0) (b .yielded))
+    prod (shareRange .most) (mostYield) (rw (c .before .wide8 .ensures) (b .share)) (rw (c .wide16 .ensures .0) (b .yielded))
 
 nitrogen-fits : (c : tie.After-wide165) → let at = c .before .before .before .before in (at .before .wide8 .result) * (at .wide16 .result) * (c .wide165 .result) ≤ 2000000 * 65535
 nitrogen-fits c = prod 2000000 65535 (yielded-le (c .before .before .before .before)) (c .wide165 .ensures .1)

@@ -4,7 +4,7 @@ use mathlib.Core.Logic.{_⊎_, inl, inr}
 use native.Mathlib.Omega.{arith}
 use borrow.Author.Needs.{needs}
 use lib.ListN.{length}
-use Rattle.program.specs.declared.Reading.the-variants.{More}
+use Rattle.program.specs.declared.ReadState.the-variants.{More}
 use Rattle.program.proofs.ReaderLaws.{Reached, none-yet, reached-next, more-is-later, all-read}
 use Rattle.program.proofs.reader.read_all.Statement.{statement}
 use Rattle.program.proofs.reader.read_all.Tie as tie
@@ -62,7 +62,7 @@ returns c =
     let once = c .before .before .before in
     let at = once .before .before in
     rw (← at .loop .inv .1)
-    (all-read (length (at .loop .buffer)) (at .loop .done) (once .read-once .result) (at .loop .inv .0) (at .loop .inv .2) (once .read-once .ensures .next)
+    (all-read (length (at .loop .buffer)) (at .loop .done) (once .read-once .result) (at .loop .inv .2) (once .read-once .ensures .next)
     (λ n q. other (c .match .keys2) (rw q)))
 
 pub read-all-spec : {M : Type 1} → statement M

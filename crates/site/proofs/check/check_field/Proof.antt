@@ -6,8 +6,8 @@ use Rattle.site.proofs.check.check_field.Tie as tie
 count-rule-requires : tie.Need-count-rule-requires
 count-rule-requires c κs = search needs
 
-field-rule-requires : tie.Need-field-rule-requires
-field-rule-requires c κs = search needs
+value-rule-requires : tie.Need-value-rule-requires
+value-rule-requires c κs = search needs
 
 both-requires : tie.Need-both-requires
 both-requires c κs = search needs
@@ -19,9 +19,9 @@ returns : tie.Need-returns
 unfolding fieldsRule
 returns c =
     let r = c .before .before in
-    λ ts e. rw (c .both2 .ensures, c .before .both .ensures, r .before .count-rule .ensures, r .field-rule .ensures, e)
+    λ ts e. rw (c .both2 .ensures, c .before .both .ensures, r .before .count-rule .ensures, r .value-rule .ensures, e)
 
 pub check-field-spec : {M : Type 1} → statement M
 check-field-spec =
     tie.close
-    (tie.spec count-rule-requires field-rule-requires both-requires both-requires-2 returns)
+    (tie.spec count-rule-requires value-rule-requires both-requires both-requires-2 returns)

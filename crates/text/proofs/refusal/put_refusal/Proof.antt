@@ -3,7 +3,7 @@ use mathlib.Core.Path.{_≡_}
 use native.Mathlib.Omega.{arith}
 use denote.Ref.{now}
 use lib.ListN.{length, length-set}
-use Rattle.text.specs.RefusalLine.{numbered, refusedWord, atWord}
+use Rattle.text.specs.RefusalLine.{refusedLine, refusedWord, atWord}
 use Rattle.output.proofs.WritingLaws.{then, stored}
 use Rattle.text.proofs.LineLaws.{length-refusal, refusal-is}
 use Rattle.text.proofs.TextAnswers.{as-clauses, text-refused, text-printed}
@@ -31,7 +31,7 @@ returns c =
     let n = c .before .before .before in
     let s = n .before .before in
     let l = length-refusal (n .rule-number .result) (s .args .at) in
-    rw (← refusal-is (s .args .rule) (s .args .at) (n .rule-number .ensures)) (as-clauses (text-refused (numbered (n .rule-number .result) (s .args .at)) (now (s .args .out)) (omega arith) (omega arith)))
+    rw (← refusal-is (s .args .rule) (s .args .at) (n .rule-number .ensures)) (as-clauses (text-refused (refusedLine (n .rule-number .result) (s .args .at)) (now (s .args .out)) (omega arith) (omega arith)))
 
 slice-aggregate-put-bytes : tie.Need-slice-aggregate-put-bytes
 slice-aggregate-put-bytes c = search needs
@@ -71,7 +71,7 @@ same-length : tie.Need-same-length
 same-length c = simp length-set (omega arith)
 
 returns-2 : tie.Need-returns-2
-unfolding numbered refusedWord atWord
+unfolding refusedLine refusedWord atWord
 returns-2 c =
     let d4 = c .before .before in
     let b3 = d4 .before .before .before .before in
@@ -79,7 +79,7 @@ returns-2 c =
     let b1 = d2 .before .before .before .before in
     let n = b1 .before .before .before .before .before .before in
     let s = n .before .before in
-    let text = numbered (n .rule-number .result) (s .args .at) in
+    let text = refusedLine (n .rule-number .result) (s .args .at) in
     rw (← refusal-is (s .args .rule) (s .args .at) (n .rule-number .ensures))
     (as-clauses (text-printed text
     (then (then (then (then (b1 .put-bytes .ensures .fits (omega arith)) (d2 .put-decimal .ensures)) (b3 .put-bytes2 .ensures .fits (room b3))) (d4 .put-decimal2 .ensures))

@@ -4,8 +4,8 @@ use borrow.Author.Needs.{needs}
 use Rattle.site.specs.Values.{valueRule}
 use Rattle.site.proofs.MatchLaws.{none-below}
 use Rattle.site.proofs.FieldLaws.{value-none}
-use Rattle.site.proofs.value.field_rule.Statement.{statement}
-use Rattle.site.proofs.value.field_rule.Tie as tie
+use Rattle.site.proofs.value.value_rule.Statement.{statement}
+use Rattle.site.proofs.value.value_rule.Tie as tie
 
 name-rule-requires : tie.Need-name-rule-requires
 name-rule-requires c κs = search needs
@@ -108,8 +108,8 @@ returns-14 c = rw (c .before .match .keys14) (c .leachate-rule .ensures)
 returns-15 : tie.Need-returns-15
 returns-15 c = sym (value-none _ _ (none-below 14 (c .before .args .tag) (c .match .rest)))
 
-pub field-rule-spec : {M : Type 1} → statement M
-field-rule-spec =
+pub value-rule-spec : {M : Type 1} → statement M
+value-rule-spec =
     tie.close
     (tie.spec
     name-rule-requires
