@@ -1,4 +1,4 @@
--- The check of a site value, or of a field of it, gives no other rule than 7 to 10: a test of the rule, which holds of every branch.
+-- The check of a site value, or of a field, gives no other rule than 7 to 10: a test that holds of each case of the rules.
 use mathlib.Core.Path.{_≡_, refl, ap, _∙_}
 use mathlib.Core.Logic.{_⊎_, inl, inr}
 use mathlib.Core.Bool.{Bool, true, false, _&&_}
@@ -19,6 +19,7 @@ use Rattle.site.specs.Check.{fieldsRule, siteRule}
 use Rattle.site.proofs.Tests.{and-l, and-r}
 use Rattle.site.proofs.PartLaws.{all-getD}
 
+-- passed, or one of the rules 7 to 10
 unfoldable pub known : Checked → Bool
 known Passed = true
 known (Broken r) = leb 7 (ruleNumber r) && leb (ruleNumber r) 10
