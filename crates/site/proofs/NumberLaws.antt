@@ -16,6 +16,7 @@ use Rattle.site.specs.Values.{itemsOf, itemCount, countRule, ranged, ins
 use Rattle.site.specs.Check.{fieldsRule, siteRule}
 use Rattle.site.proofs.PartLaws.{all-getD}
 
+-- no rule, or one of 7 to 10
 unfoldable pub known : Checked → Bool
 known Passed = true
 known (Broken r) = leb 7 (ruleNumber r) && leb (ruleNumber r) 10

@@ -16,12 +16,14 @@ use Rattle.site.specs.Choice.{pick}
 use Rattle.site.specs.Values.{allOf, entryRanged, risingFrom, sharesOf, orderRule, standRule}
 use Rattle.site.proofs.PartLaws.{part-cons, part-end}
 
+-- what no entry has shown, and what one more adds
 abbrev start : Seen
 start = record { rising = true; least = 0; shares = 0 }
 
 abbrev withEntry : Seen → Entry → Seen
 withEntry s e = record { rising = (s .rising) && leb (s .least) (e .species); least = e .species + 1; shares = s .shares + e .share }
 
+-- rules 8 to 10, with es the entries left
 unfoldable pub restRule : Seen → List Entry → Checked
 restRule s es =
     pick (allOf entryRanged es) (orderRule ((s .rising) && risingFrom (s .least) es) (eqb (s .shares + sharesOf es) 100)) (Broken OutOfRange)

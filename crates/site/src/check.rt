@@ -28,7 +28,7 @@ fn check_field(site: Site, tag: u8, later: Checked) -> Checked
     both(both(count, value), later)
 }
 
-// Five fields from tag t on, then the later ones. With no loop each tag is known where it is checked, and its rule is a few tests.
+// Five fields from tag t on, then the later ones. With no loop each tag is a constant when this is inlined, and its rule a few tests.
 fn five_fields(site: Site, t: u8, later: Checked) -> Checked
     requires { ⌜ t ≤ 251 ⌝ }
     ensures { λ r. ⌜ ((ts : List ℕ) → later ≡ fieldsRule ts site → r ≡ fieldsRule (t ∷ (t + 1) ∷ (t + 2) ∷ (t + 3) ∷ (t + 4) ∷ ts) site) ⌝ }
