@@ -1,4 +1,4 @@
-//! Critical loads, exceedances and verdicts of forest sites, from document 01 alone.
+//! Critical loads, exceedances and verdicts of forest sites, as document 01 states them.
 //!
 //! Numbers are `i64` throughout: the greatest product, Q × K × h³, is 3.75 × 10¹⁸.
 
