@@ -17,7 +17,7 @@ pub struct Taken {
     pub site: Site,
 }
 
-// The first `len` of `bytes`.
+// The first `len` of `bytes`; what stands behind them has no meaning.
 pub struct Content {
     pub bytes: [u8; 16],
     pub len: usize,

@@ -51,9 +51,9 @@ nitrogenUptake s = standSum nitrogenIn (s .stand) (s .entries) / 10000000
 unfoldable pub baseDemand : Site → ℕ
 baseDemand s = up (standSum baseIn (s .stand) (s .entries)) 10000000
 
--- Bu: the demand, at most B + w − Q/10, and 0 where this is negative: the subtraction of ℕ gives 0 there
-unfoldable pub baseUptakeOf : (demand supply q : ℕ) → ℕ
-baseUptakeOf demand supply q = min demand (supply - up q 10)
+-- Bu, where bases are B + w: the demand, at most B + w − Q/10, and 0 where this is negative: the subtraction of ℕ gives 0 there
+unfoldable pub baseUptakeOf : (demand bases q : ℕ) → ℕ
+baseUptakeOf demand bases q = min demand (bases - up q 10)
 
 unfoldable pub baseUptake : Site → ℕ
 baseUptake s = baseUptakeOf (baseDemand s) ((s .«base_deposition») + availableWeathering s) (s .percolation)

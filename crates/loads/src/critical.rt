@@ -41,9 +41,9 @@ fn acid_load(
     requires { ⌜ AcidBounds b q weathered available ratio k ceiling ⌝ }
     ensures { λ r. ⌜ (r ≡ acidLoad b q weathered available demand ratio k ceiling) × (r ≤ mostMaxS) ⌝ }
 {
-    let supply = b + available;
-    let taken = base_uptake(demand, supply, q);
-    let limit = aluminium_limit(supply - taken, ratio);
+    let bases = b + available;
+    let taken = base_uptake(demand, bases, q);
+    let limit = aluminium_limit(bases - taken, ratio);
     b + weathered - taken + critical_leaching(q, k, limit, ceiling)
 }
 

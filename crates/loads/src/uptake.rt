@@ -69,16 +69,16 @@ pub fn stand_sums(stand: [Entry; 4], entries: usize) -> Sums
     Sums { nitrogen, base }
 }
 
-// Bu: supply is B + w
-pub fn base_uptake(demand: u64, supply: u64, q: u64) -> u64
+// Bu: bases is B + w
+pub fn base_uptake(demand: u64, bases: u64, q: u64) -> u64
     requires { ⌜ q ≤ percolationRange .most ⌝ }
-    ensures { λ r. ⌜ (r ≡ baseUptakeOf demand supply q) × (r ≤ supply) ⌝ }
+    ensures { λ r. ⌜ (r ≡ baseUptakeOf demand bases q) × (r ≤ bases) ⌝ }
 {
     let least = (q + 9) / 10;
-    if supply <= least {
+    if bases <= least {
         return 0;
     }
-    let spare = supply - least;
+    let spare = bases - least;
     if demand <= spare {
         return demand;
     }

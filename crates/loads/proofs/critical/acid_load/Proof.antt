@@ -4,8 +4,8 @@ use borrow.Author.Needs.{needs}
 use Rattle.loads.proofs.critical.acid_load.Statement.{statement}
 use Rattle.loads.proofs.critical.acid_load.Tie as tie
 
-add-supply : tie.Need-add-supply
-add-supply c = search needs
+add-bases : tie.Need-add-bases
+add-bases c = search needs
 
 base-uptake-requires : tie.Need-base-uptake-requires
 base-uptake-requires c κs = search needs
@@ -36,7 +36,7 @@ pub acid-load-spec : {M : Type 1} → statement M
 acid-load-spec =
     tie.close
     (tie.spec
-    add-supply
+    add-bases
     base-uptake-requires
     sub-aluminium-limit
     aluminium-limit-requires
