@@ -76,12 +76,12 @@ module _ {A : Type 0} where
   pub front : (at : ℕ) {m : ℕ} (xs ys : List A) → at + length (xs ++ ys) ≤ m → at + length xs ≤ m
   front at xs ys h = omega (arith, length-append xs ys)
 
-  pub whole : {d e : List A} {at r : ℕ} {xs : List A} → Wrote d at xs e r → at + length xs ≤ length d → e ≡ take at d ++ xs ++ drop (at + length xs) d
-  whole {d} {e} {at} {r} {xs} w h = w .text ∙ write-eq d at xs h
+  wrote-at : {d e : List A} {at r : ℕ} {xs : List A} → Wrote d at xs e r → at + length xs ≤ length d → e ≡ take at d ++ xs ++ drop (at + length xs) d
+  wrote-at {d} {e} {at} {r} {xs} w h = w .text ∙ write-eq d at xs h
 
   -- the form at the front
   pub in-front : {d e : List A} {r : ℕ} {xs : List A} → Wrote d 0 xs e r → length xs ≤ length d → (r ≡ length xs) × (e ≡ xs ++ drop (length xs) d)
-  in-front {d} {e} {r} {xs} w h = (omega (arith, w .next), whole w (omega arith) ∙ rw zero-add)
+  in-front {d} {e} {r} {xs} w h = (omega (arith, w .next), wrote-at w (omega arith) ∙ rw zero-add)
 
   -- a run for which there is no room
   pub wrote-none : (d : List A) (at : ℕ) (xs : List A) → length d < at + length xs → WroteIf d at xs d at

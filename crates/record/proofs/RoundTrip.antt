@@ -43,23 +43,23 @@ read-written s z e =
 -- ---- what is read is written
 
 module _ (s : Site) (f : List ℕ) (e : readRecord f ≡ accepted s) where
-  whole : siteAt f 0 ≡ good (s, length f)
+  found-first : siteAt f 0 ≡ good (s, length f)
   unfolding readRecord
-  whole = single-good (siteAt f) (length f) (accepted-good _ e)
+  found-first = single-good (siteAt f) (length f) (accepted-good _ e)
 
   -- a site that was read passes the check, and past the name and the entries stand zeros
   pub read-passes : siteRule s ≡ Passed
-  read-passes = site-passes f 0 whole
+  read-passes = site-passes f 0 found-first
 
   pub read-clean : clean s ≡ s
-  read-clean = site-clean f 0 whole
+  read-clean = site-clean f 0 found-first
 
   -- an accepted record is written again byte for byte
   pub written-read : AllBytes f → encode s ≡ f
   written-read b =
       let n : length f - 0 ≡ length f = omega arith in
       let t : take (length f) f ≡ f = take-all (length f) f (omega arith) in
-      rw n at (site-bytes f 0 whole b) ∙ t
+      rw n at (site-bytes f 0 found-first b) ∙ t
 
 -- two different records never read to one site
 pub read-injective : (s : Site) (f g : List ℕ) → AllBytes f → AllBytes g → readRecord f ≡ accepted s → readRecord g ≡ accepted s → f ≡ g
@@ -76,7 +76,7 @@ accepted-is r e = ap (λ (o : Outcome). answerWith o (r .site)) e
 
 -- a file that is read is one record of at most 258 bytes, and no fault lies past that
 pub read-short : (f : List ℕ) → readRecord f .outcome ≡ Accepted → length f ≤ mostRecord
-read-short f o = let e = accepted-is (readRecord f) o in omega (arith, site-near f 0 (whole (readRecord f .site) f e))
+read-short f o = let e = accepted-is (readRecord f) o in omega (arith, site-near f 0 (found-first (readRecord f .site) f e))
 
 pub read-fault-near : (f : List ℕ) {rule : Rule} {at : ℕ} → readRecord f .outcome ≡ Refused rule at → at ≤ mostRecord
 unfolding readRecord readOf accepted refusedAt single onlyOne

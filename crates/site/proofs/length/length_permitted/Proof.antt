@@ -9,9 +9,9 @@ use Rattle.site.proofs.LengthLaws.{width-positive, longest, permitted-n
 use Rattle.site.proofs.length.length_permitted.Statement.{statement}
 use Rattle.site.proofs.length.length_permitted.Tie as tie
 
-whole : (c : tie.Else2)
+by-items : (c : tie.Else2)
     → let a = c .before .before .before .before .args in lengthPermitted (a .tag) (a .n) ≡ eqb (a .n % c .before .before .items-of .result .width) 0
-whole c =
+by-items c =
     rw (c .before .before .items-of .ensures)
     (permitted-items _ _ (c .before .before .before .if1 .left) (rw (c .before .before .items-of .ensures) at (c .if2 .left)))
 
@@ -28,13 +28,13 @@ returns-2 : tie.Need-returns-2
 returns-2 c = sym (permitted-more _ _ (c .before .before .before .if1 .left) (rw (c .before .before .items-of .ensures) at (c .if2 .taken)))
 
 returns-3 : tie.Need-returns-3
-returns-3 c = rw (whole (c .before), sym (c .if3 .taken), mod-self)
+returns-3 c = rw (by-items (c .before), sym (c .if3 .taken), mod-self)
 
 rem-result : tie.Need-rem-result
 rem-result c = rw (c .before .before .before .items-of .ensures) (width-positive (c .before .before .before .before .before .args .tag))
 
 returns-4 : tie.Need-returns-4
-returns-4 c = sym (whole (c .before))
+returns-4 c = sym (by-items (c .before))
 
 pub length-permitted-spec : {M : Type 1} → statement M
 length-permitted-spec =
