@@ -1,6 +1,6 @@
 -- The fields of a site record by tag, both ways: a value taken into a site, and the bytes of a site's value.
 use mathlib.Core.Path.{_≡_}
-use Prim.Native.Nat.{ℕ, zero, suc, _+_, _*_, _/_, _%_, _≤_}
+use Prim.Native.Nat.{ℕ, zero, suc, _+_, _*_, _/_, _%_}
 use mathlib.Core.List.{List, [], _∷_, _++_}
 use lib.Dec.{eqb}
 use lib.ListN.{getD, length, take, replicate}
@@ -116,9 +116,3 @@ taken t v s = record { checked = fieldRule siteKind t v s; site = pick (lengthPe
 pub record Stored (t : ℕ) (v : List ℕ) (s : Site) (r : Taken) : Type 0 where
   pub site : r .site ≡ store t v s
   pub checked : r .checked ≡ valueRule t (r .site)
-
--- the first `len` of `bytes` are the value v
-pub record Holds (bytes : List ℕ) (len : ℕ) (v : List ℕ) : Type 0 where
-  pub first : take len bytes ≡ v
-  pub long : len ≡ length v
-  pub small : len ≤ 16

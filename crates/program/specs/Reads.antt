@@ -1,4 +1,4 @@
--- ReadState a file into a buffer.
+-- Reading a file into a buffer.
 use Prim.Native.Nat.{ℕ, _+_}
 use mathlib.Core.Path.{_≡_}
 use mathlib.Core.List.{List, [], _∷_}

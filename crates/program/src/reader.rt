@@ -1,4 +1,4 @@
-// ReadState a file into a buffer.
+// Reading a file into a buffer.
 ghost use mathlib.Core.Path.{_≡_};
 ghost use Prim.Native.Nat.{_-_, _≤_};
 ghost use lib.ListN.{length};

@@ -1,3 +1,4 @@
+pub mod ContentLaws
 pub mod FieldBytes
 pub mod ResultLaws
 pub mod WalkLaws

@@ -2,9 +2,11 @@
 mod answer;
 mod bytes;
 mod due;
+mod halves;
 mod inner;
 mod outer;
 mod put;
+mod value;
 mod writer;
 
 pub use outer::read_at;

@@ -8,7 +8,7 @@ ghost use Rattle.record.specs.FieldParts.{fieldOf};
 ghost use Rattle.field.specs.Field.{value, siteKind};
 ghost use Rattle.record.specs.Fields.{encodeFields};
 use crate::due::due_tag;
-use field::value_of;
+use crate::value::value_of;
 use output::put_bytes;
 use site::Site;
 

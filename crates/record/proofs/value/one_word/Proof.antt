@@ -1,7 +1,7 @@
 use mathlib.Core.Path.{sym}
 use borrow.Author.Needs.{needs}
-use Rattle.field.proofs.value.one_word.Statement.{statement}
-use Rattle.field.proofs.value.one_word.Tie as tie
+use Rattle.record.proofs.value.one_word.Statement.{statement}
+use Rattle.record.proofs.value.one_word.Tie as tie
 
 hi-requires : tie.Need-hi-requires
 hi-requires c κs = search needs

@@ -6,11 +6,11 @@ use lib.ListN.{length, take}
 use lib.Seq.{length-take-le}
 use Rattle.site.specs.declared.Entry.{Entry}
 use borrow.Author.Needs.{needs}
 use Rattle.field.specs.Field.{entriesBytes, tabulate}
-use Rattle.field.proofs.FieldValueLaws.{stand-value, capped}
+use Rattle.record.proofs.ContentLaws.{stand-value, capped}
 use Rattle.field.proofs.EntryLaws.{length-entries}
-use Rattle.field.proofs.value.stand_value.Statement.{statement}
-use Rattle.field.proofs.value.stand_value.Tie as tie
+use Rattle.record.proofs.value.stand_value.Statement.{statement}
+use Rattle.record.proofs.value.stand_value.Tie as tie
 
 stand-len : (c : tie.Start) → length (c .args .t1) ≡ 4
 stand-len c = search needs

@@ -4,10 +4,10 @@ use native.Mathlib.Omega.{arith}
 use lib.ListN.{length, take}
 use lib.Seq.{length-take-le}
 use borrow.Author.Needs.{needs}
 use Rattle.field.specs.Field.{tabulate}
-use Rattle.field.proofs.FieldValueLaws.{nameBytes, name-value, capped}
-use Rattle.field.proofs.value.name_value.Statement.{statement}
-use Rattle.field.proofs.value.name_value.Tie as tie
+use Rattle.record.proofs.ContentLaws.{nameBytes, name-value, capped}
+use Rattle.record.proofs.value.name_value.Statement.{statement}
+use Rattle.record.proofs.value.name_value.Tie as tie
 
 at-most-requires : tie.Need-at-most-requires
 at-most-requires c κs = search needs

@@ -1,9 +1,9 @@
 use borrow.Author.Needs.{needs}
 use Rattle.site.proofs.MatchLaws.{none-below}
 use Rattle.field.specs.Field.{value}
-use Rattle.field.proofs.FieldValueLaws.{no-value}
-use Rattle.field.proofs.value.value_of.Statement.{statement}
-use Rattle.field.proofs.value.value_of.Tie as tie
+use Rattle.record.proofs.ContentLaws.{no-value}
+use Rattle.record.proofs.value.value_of.Statement.{statement}
+use Rattle.record.proofs.value.value_of.Tie as tie
 
 name-value-requires : tie.Need-name-value-requires
 name-value-requires c κs = search needs

@@ -4,13 +4,19 @@ ghost use mathlib.Core.Path.{_≡_};
 ghost use lib.Dec.{leb};
 ghost use lib.ListN.{take};
 ghost use Rattle.site.specs.Choice.{pick};
-ghost use Rattle.field.specs.Field.{value, wordBytes, entriesBytes, Holds};
-use crate::Content;
+ghost use Rattle.field.specs.Field.{value, wordBytes, entriesBytes};
+ghost use Rattle.record.specs.Content.{Holds};
 use crate::halves::hi;
 use crate::halves::lo;
 use site::Entry;
 use site::Site;
 use site::wide;
+
+// The first `len` of `bytes`; what stands behind them has no meaning.
+pub struct Content {
+    pub bytes: [u8; 16],
+    pub len: usize,
+}
 
 // n, but no more than there are.
 fn at_most(n: u8, most: usize) -> usize

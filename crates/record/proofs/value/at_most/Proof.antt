@@ -1,8 +1,8 @@
 use native.Mathlib.Omega.{arith}
 use borrow.Author.Tests.{le-leb, lt-leb}
 use borrow.Author.Needs.{needs}
-use Rattle.field.proofs.value.at_most.Statement.{statement}
-use Rattle.field.proofs.value.at_most.Tie as tie
+use Rattle.record.proofs.value.at_most.Statement.{statement}
+use Rattle.record.proofs.value.at_most.Tie as tie
 
 wide-requires : tie.Need-wide-requires
 wide-requires c κs = search needs

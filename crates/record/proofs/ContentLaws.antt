@@ -1,0 +1,54 @@
+-- What the writer makes of a site's arrays, the name and the stand, and of a tag that has no value.
+use mathlib.Core.Path.{_≡_, refl, sym, _∙_}
+use mathlib.Core.Bool.{Bool, true, false}
+use mathlib.Core.List.{List, [], _++_}
+use mathlib.Core.Logic.{⊎-elim}
+use Prim.Native.Nat.{ℕ, _*_, _≤_, _<_}
+use native.Mathlib.Omega.{arith}
+use lib.ListN.{length, getD, take, replicate, List·getD-eq-default}
+use lib.Dec.{leb}
+use lib.Seq.{take-append-le, take-all}
+use borrow.Author.Tests.{leb-true, leb-false}
+use Rattle.site.specs.Choice.{pick}
+use Rattle.site.specs.declared.Site.{Site}
+use Rattle.site.specs.declared.Entry.{Entry}
+use Rattle.site.specs.Bounds.{noEntry}
+use Rattle.site.proofs.Tests.{le-or-lt}
+use Rattle.field.specs.Field.{values, value, entriesBytes, tabulate}
+use Rattle.field.proofs.TabulateLaws.{tabulate-getD}
+use Rattle.field.proofs.EntryLaws.{entries-take}
+
+-- n elements of an array, or all that it has
+pub capped : {A : Type 0} (l : List A) (n most : ℕ) → length l ≡ most
+    → (pick (leb n most) n most ≤ most) × (take (pick (leb n most) n most) l ≡ take n l)
+capped l n most e = go (leb n most) refl
+  where
+    go : (b : Bool) → leb n most ≡ b → (pick b n most ≤ most) × (take (pick b n most) l ≡ take n l)
+    go true q = (leb-true n most q, refl)
+    go false q =
+        let h : most < n = leb-false n most q in
+        (omega arith, take-all most l (omega arith) ∙ sym (take-all n l (omega arith)))
+
+unfoldable pub nameBytes : List ℕ → List ℕ
+nameBytes l = tabulate 8 (λ i. getD l i 0) ++ replicate 8 0
+
+pub name-value : (l : List ℕ) (n : ℕ) → length l ≡ 8 → n ≤ 8 → take n (nameBytes l) ≡ take n l
+unfolding nameBytes
+name-value l n e h =
+    let q : tabulate 8 (λ i. getD l i 0) ≡ l = rw e at (tabulate-getD l 0) in
+    rw q (take-append-le n l (replicate 8 0) (omega arith))
+
+pub stand-value : (l : List Entry) (n : ℕ) → length l ≡ 4 → take (4 * n) (entriesBytes (tabulate 4 (λ i. getD l i noEntry))) ≡ entriesBytes (take n l)
+unfolding tabulate
+stand-value l n e =
+    let q : tabulate 4 (λ i. getD l i noEntry) ≡ l = rw e at (tabulate-getD l noEntry) in
+    rw q (entries-take n l)
+
+-- another tag has no bytes
+pub no-value : (t : ℕ) (s : Site) → (t < 16 → t ≡ 0) → value t s ≡ []
+unfolding value
+no-value t s h =
+    ⊎-elim
+    (λ (past : 16 ≤ t). List·getD-eq-default (values s) [] {n = t} past)
+    (λ (below : t < 16). rw (h below))
+    (le-or-lt 16 t)
