@@ -20,9 +20,9 @@ use Rattle.program.specs.declared.ReadState.{ReadState}
 use Rattle.program.specs.declared.ReadState.the-variants.{More, Ended, Failed}
 use Rattle.program.specs.Printing.{shownLength, outputOf, ReadFrom}
 
--- the clauses of the call that answers
-abbrev pub Answers : (b d e : List ℕ) → ReadState → ℕ → Type 0
-Answers b d e r k =
+-- the clauses of `to_print`
+abbrev pub Prints : (b d e : List ℕ) → ReadState → ℕ → Type 0
+Prints b d e r k =
     ((k ≤ length e) × (k ≡ length (take k e)))
     × ((k ≡ length (outputOf r b))
     × ((e ≡ outputOf r b ++ drop (length (outputOf r b)) d)
@@ -35,14 +35,14 @@ Answers b d e r k =
 not-ended : {f b : List ℕ} {r : ReadState} {X : Type 0} → ((n : ℕ) → r ≡ Ended n → ⊥) → ReadFrom f b r → X
 not-ended h x = absurd (h (x .count) (x .ended))
 
-silent : (b d : List ℕ) (r : ReadState) → outputOf r b ≡ [] → ((n : ℕ) → r ≡ Ended n → ⊥) → Answers b d d r 0
+silent : (b d : List ℕ) (r : ReadState) → outputOf r b ≡ [] → ((n : ℕ) → r ≡ Ended n → ⊥) → Prints b d d r 0
 silent b d r e h = ((omega arith, refl), (rw e, (rw e, (λ _. (refl, refl), (λ f x. not-ended h x, λ f x. not-ended h x)))))
 
-pub after-failure : (b d : List ℕ) (r : ReadState) → r ≡ Failed → Answers b d d r 0
+pub after-failure : (b d : List ℕ) (r : ReadState) → r ≡ Failed → Prints b d d r 0
 unfolding outputOf
 after-failure b d r e = silent b d r (rw e) (λ n q. let z : _≡_ {A = ℕ} 0 1 = cc in omega arith)
 
-pub before-the-end : (b d : List ℕ) (r : ReadState) (k : ℕ) → r ≡ More k → Answers b d d r 0
+pub before-the-end : (b d : List ℕ) (r : ReadState) (k : ℕ) → r ≡ More k → Prints b d d r 0
 unfolding outputOf
 before-the-end b d r k e = silent b d r (rw e) (λ n q. let z : _≡_ {A = ℕ} 0 1 = cc in omega arith)
 
@@ -85,7 +85,7 @@ module _ (b d e : List ℕ) (r : ReadState) (n m k : ℕ) (is : r ≡ Ended n) (
       let first : take n b ≡ take (length b) f = rw same at (x .bytes) in
       all ∙ ap reportOf (same-part n m b part ∙ first) ∙ ap (λ l. reportOf (take l f)) size ∙ report-take f
 
-  pub after-the-end : Answers b d e r k
+  pub after-the-end : Prints b d e r k
   after-the-end =
       let front = in-front (reportOf (take m b)) d e k answer buffer all in
       (inside, (rw (← out-is) (front .0), (rw (← out-is) (front .1), (λ q. let z : _≡_ {A = ℕ} 0 1 = cc in absurd (omega arith), (for-the-file, λ f x. rw (for-the-file f x) (report-says f))))))

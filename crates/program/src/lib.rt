@@ -2,7 +2,7 @@
 mod printing;
 mod reader;
 
-pub use printing::answer;
+pub use printing::to_print;
 pub use reader::after_read;
 pub use reader::read_all;
 

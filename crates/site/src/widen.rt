@@ -9,10 +9,10 @@ pub fn wide(b: u8) -> usize
     b as usize
 }
 
-pub fn wide8(x: u8) -> u64
-    ensures { λ r. ⌜ r ≡ x ⌝ }
+pub fn wide8(b: u8) -> u64
+    ensures { λ r. ⌜ r ≡ b ⌝ }
 {
-    x as u64
+    b as u64
 }
 
 pub fn wide16(x: u16) -> u64

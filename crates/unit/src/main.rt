@@ -4,6 +4,6 @@ fn main() {
     let input = program::read_all(&mut file);
     let reading = input.reading;
     let mut out = [0u8; 81551];
-    let k = program::answer(&file, reading, &mut out);
+    let k = program::to_print(&file, reading, &mut out);
     io::write_all(1, &out[..k]);
 }

@@ -5,8 +5,8 @@ use lib.ListN.{length}
 use lib.Seq.{length-take-le}
 use Rattle.program.proofs.PrintingLaws.{after-failure, before-the-end, after-the-end}
 use borrow.Author.Needs.{needs}
-use Rattle.program.proofs.printing.answer.Statement.{statement}
-use Rattle.program.proofs.printing.answer.Tie as tie
+use Rattle.program.proofs.printing.to_print.Statement.{statement}
+use Rattle.program.proofs.printing.to_print.Tie as tie
 
 enum-known-reading : tie.Need-enum-known-reading
 enum-known-reading c = search needs
@@ -43,8 +43,8 @@ returns-2 c = let s = c .before .before in before-the-end (now (s .args .file)) 
 returns-3 : tie.Need-returns-3
 returns-3 c = let s = c .before .before in after-failure (now (s .args .file)) (now (s .args .out)) (s .args .reading) (c .enum-told2 .given .1)
 
-pub answer-spec : {M : Type 1} → statement M
-answer-spec =
+pub to-print-spec : {M : Type 1} → statement M
+to-print-spec =
     tie.close
     (tie.spec
     enum-known-reading
