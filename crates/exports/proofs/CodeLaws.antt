@@ -5,7 +5,7 @@ use mathlib.Core.List.{List, [], _∷_}
 use native.Mathlib.Omega.{arith}
 use native.Mathlib.Nat.{mod-eq-of-lt}
 use lib.ListN.{length, getD}
-use Rattle.field.specs.Field.{tabulate}
+use Rattle.site.specs.Bytes.{tabulate}
 use Rattle.field.proofs.TabulateLaws.{tabulate-getD}
 use Rattle.site.specs.Refusal.{ruleNumber}
 use Rattle.site.specs.ByCheck.{answerIf}

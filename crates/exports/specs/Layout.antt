@@ -6,8 +6,7 @@ use lib.ListN.{getD, length}
 use Rattle.site.specs.Choice.{pick}
 use Rattle.site.specs.Refusal.{andThen}
 use Rattle.site.specs.Check.{siteRule}
-use Rattle.site.specs.Bytes.{wordAt}
-use Rattle.field.specs.Field.{entryAt}
+use Rattle.site.specs.Bytes.{wordAt, nameIn, entryAt}
 use Rattle.site.specs.declared.Site.{Site}
 use Rattle.site.specs.declared.Rule.the-variants.{BadLength}
 use Rattle.site.specs.declared.Checked.{Checked}
@@ -20,7 +19,7 @@ use Rattle.judgement.specs.Verdicts.{verdict, verdictNumbers}
 
 unfoldable pub siteIn : List ℕ → Site
 siteIn b = record {
-  name = getD b 0 0 ∷ getD b 1 0 ∷ getD b 2 0 ∷ getD b 3 0 ∷ getD b 4 0 ∷ getD b 5 0 ∷ getD b 6 0 ∷ getD b 7 0 ∷ [];
+  name = nameIn b;
   «name_len» = getD b 8 0;
   parent = getD b 9 0;
   clay = getD b 10 0;

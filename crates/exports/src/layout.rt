@@ -1,53 +1,27 @@
 // A site value from its 50 bytes.
 ghost use mathlib.Core.Path.{_≡_};
-ghost use Prim.Native.Nat.{_≤_};
-ghost use Rattle.field.specs.Field.{entryAt};
 ghost use Rattle.exports.specs.Layout.{siteIn};
 use site::Entry;
 use site::Site;
 use site::byte;
+use site::entry_at;
+use site::name_in;
 use site::word_at;
-
-fn entry(b: &[u8], at: usize) -> Entry
-    requires { ⌜ at ≤ 28 ⌝ }
-    ensures { λ r. ⌜ r ≡ entryAt (now (b .entry)) at ⌝ }
-{
-    Entry {
-        species: byte(b, at),
-        share: byte(b, at + 1),
-        yield_kg: word_at(b, at + 2),
-    }
-}
-
-fn name(b: &[u8]) -> [u8; 8]
-    ensures { λ r. ⌜ r ≡ siteIn (now (b .entry)) .name ⌝ }
-{
-    [
-        byte(b, 0),
-        byte(b, 1),
-        byte(b, 2),
-        byte(b, 3),
-        byte(b, 4),
-        byte(b, 5),
-        byte(b, 6),
-        byte(b, 7),
-    ]
-}
 
 fn stand(b: &[u8]) -> [Entry; 4]
     ensures { λ r. ⌜ r ≡ siteIn (now (b .entry)) .stand ⌝ }
 {
-    let e0 = entry(b, 16);
-    let e1 = entry(b, 20);
-    let e2 = entry(b, 24);
-    let e3 = entry(b, 28);
+    let e0 = entry_at(b, 16);
+    let e1 = entry_at(b, 20);
+    let e2 = entry_at(b, 24);
+    let e3 = entry_at(b, 28);
     [e0, e1, e2, e3]
 }
 
 pub fn site_in(b: &[u8]) -> Site
     ensures { λ r. ⌜ r ≡ siteIn (now (b .entry)) ⌝ }
 {
-    let name = name(b);
+    let name = name_in(b);
     let stand = stand(b);
     Site {
         name,

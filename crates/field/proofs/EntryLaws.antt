@@ -4,12 +4,12 @@ use mathlib.Core.List.{List, [], _∷_}
 use Prim.Native.Nat.{ℕ, zero, suc, _+_, _*_, _/_, _%_, _≤_}
 use native.Mathlib.Nat.{le-of-suc-le-suc, not-suc-le-zero}
 use native.Mathlib.Omega.{arith}
-use lib.ListN.{length, getD, take, List·getD-eq-default}
+use lib.ListN.{length, getD, take}
 use lib.Seq.{getD-drop}
 use Rattle.site.specs.declared.Entry.{Entry}
 use Rattle.site.specs.Bounds.{noEntry}
-use Rattle.site.specs.Bytes.{wordOf}
-use Rattle.field.specs.Field.{entriesBytes, tabulate, entryAt}
+use Rattle.site.specs.Bytes.{wordOf, tabulate, entryAt}
+use Rattle.field.specs.Field.{entriesBytes}
 use Rattle.field.specs.Clean.{AllBytes}
 use Rattle.field.proofs.TabulateLaws.{tabulate-cong}
 
@@ -70,11 +70,3 @@ entries-back (suc n) (suc m) (p ∷ q ∷ r ∷ t ∷ v) h l b =
     let hi : (256 * r + t) / 256 ≡ r = omega (arith, b 3) in
     let lo : (256 * r + t) % 256 ≡ t = omega (arith, b 3) in
     rw (hi, lo, tabulate-cong m _ _ (entry-skip p q r t v), entries-back n m v (le-of-suc-le-suc h) (omega arith) (λ i. b (suc (suc (suc (suc i))))))
-
-byte-past : (v : List ℕ) (i : ℕ) → length v ≤ i → getD v i 0 ≡ 0
-byte-past v i h = List·getD-eq-default v 0 {n = i} h
-
--- past the bytes stands no entry
-pub entry-past : (v : List ℕ) (i : ℕ) → length v ≤ i → entryAt v i ≡ noEntry
-unfolding entryAt
-entry-past v i h = rw (byte-past v i h, byte-past v (i + 1) (omega arith), byte-past v (i + 2) (omega arith), byte-past v (i + 2 + 1) (omega arith))

@@ -5,7 +5,7 @@ use Prim.Native.Nat.{ℕ, zero, suc, _≤_}
 use native.Mathlib.Nat.{le-of-suc-le-suc, not-suc-le-zero}
 use native.Mathlib.Omega.{arith}
 use lib.ListN.{length, getD, take, replicate}
-use Rattle.field.specs.Field.{tabulate}
+use Rattle.site.specs.Bytes.{tabulate}
 
 module _ {ℓ} {A : Type ℓ} where
   pub tabulate-getD : (l : List A) (d : A) → tabulate (length l) (λ i. getD l i d) ≡ l

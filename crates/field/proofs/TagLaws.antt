@@ -11,7 +11,8 @@ use Rattle.site.specs.declared.Site.{Site}
 use Rattle.site.specs.declared.Checked.the-variants.{Passed}
 use Rattle.site.specs.Bounds.{noEntry}
 use Rattle.site.specs.Choice.{pick}
-use Rattle.field.specs.Field.{tabulate, entryAt, store, entriesBytes, value, siteKind}
+use Rattle.site.specs.Bytes.{tabulate, entryAt}
+use Rattle.field.specs.Field.{store, entriesBytes, value, siteKind}
 use Rattle.field.specs.Kind.{fieldRule}
 use Rattle.site.specs.Ranges.{parentRange, depthRange, drainageRange, percolationRange, immobilisationRange, availableRange, baseDepositionRange, ratioRange, gibbsiteRange, ceilingRange, leachateRange}
 use Rattle.site.specs.Values.{due, itemsOf, lengthPermitted, itemCount, countRule, valueRule, ranged, between}
@@ -19,7 +20,8 @@ use Rattle.site.proofs.LengthLaws.{permitted-parts, parts-permitted, parts-coun
 use Rattle.field.specs.Clean.{Sized, AllBytes}
 use Rattle.field.proofs.All.{All, none, _▸_}
 use Rattle.field.proofs.TabulateLaws.{take-tabulate, length-tabulate, tabulate-clean}
-use Rattle.field.proofs.EntryLaws.{stand-back, entries-back, entry-past}
+use Rattle.site.proofs.PastLaws.{entry-past}
+use Rattle.field.proofs.EntryLaws.{stand-back, entries-back}
 use Rattle.field.proofs.KindLaws.{Made, Kept, field-passed, OneLength, OneItem, byte-item, word-item, pair-item, words-item}
 use Rattle.field.proofs.FieldValueLaws.{name-counts, name-long, stand-counts, stand-long, bytes-long}
 

@@ -1,31 +1,22 @@
 -- The fields of a site record by tag, both ways: a value taken into a site, and the bytes of a site's value.
 use mathlib.Core.Path.{_≡_}
-use Prim.Native.Nat.{ℕ, zero, suc, _+_, _*_, _/_, _%_}
+use Prim.Native.Nat.{ℕ, _*_, _/_, _%_}
 use mathlib.Core.List.{List, [], _∷_, _++_}
 use lib.Dec.{eqb}
 use lib.ListN.{getD, length, take, replicate}
 use Rattle.site.specs.declared.Entry.{Entry}
 use Rattle.site.specs.declared.Site.{Site}
 use Rattle.site.specs.Bounds.{noEntry}
-use Rattle.site.specs.Bytes.{wordAt}
+use Rattle.site.specs.Bytes.{wordAt, tabulate, nameIn, entryAt}
 use Rattle.site.specs.Choice.{pick}
 use Rattle.site.specs.Values.{due, lengthPermitted, valueRule}
 use Rattle.field.specs.declared.Taken.{Taken}
 use Rattle.field.specs.Kind.{Kind, fieldRule}
 
--- n elements, of which number i is f i
-unfoldable pub tabulate {ℓ} : {A : Type ℓ} → ℕ → (ℕ → A) → List A
-tabulate zero f = []
-tabulate (suc n) f = f 0 ∷ tabulate n (λ i. f (suc i))
-
--- the entry whose four bytes start at place i
-unfoldable pub entryAt : List ℕ → ℕ → Entry
-entryAt v i = record { species = getD v i 0; share = getD v (i + 1) 0; «yield_kg» = wordAt v (i + 2) }
-
 -- the value v of the field with tag t, put into s; past v's end stand zeros
 unfoldable pub store : ℕ → List ℕ → Site → Site
 store t v s = record {
-  name = pick (eqb t 1) (tabulate 8 (λ i. getD v i 0)) (s .name);
+  name = pick (eqb t 1) (nameIn v) (s .name);
   «name_len» = pick (eqb t 1) (length v) (s .«name_len»);
   parent = pick (eqb t 2) (getD v 0 0) (s .parent);
   clay = pick (eqb t 3) (getD v 0 0) (s .clay);

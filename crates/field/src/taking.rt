@@ -5,11 +5,10 @@ ghost use Prim.Native.Nat.{_≤_};
 ghost use lib.ListN.{length};
 ghost use Rattle.site.specs.Refusal.{checkedNumber, Numbered};
 ghost use Rattle.site.specs.Values.{lengthPermitted};
-ghost use Rattle.field.specs.Field.{entryAt, siteKind, taken, Stored};
+ghost use Rattle.field.specs.Field.{siteKind, taken, Stored};
 ghost use Rattle.field.specs.Kind.{fieldRule};
 use crate::Taken;
 use site::Checked;
-use site::Entry;
 use site::Rule;
 use site::Site;
 use site::available_rule;
@@ -18,10 +17,12 @@ use site::byte;
 use site::ceiling_rule;
 use site::depth_rule;
 use site::drainage_rule;
+use site::entry_at;
 use site::gibbsite_rule;
 use site::immobilisation_rule;
 use site::leachate_rule;
 use site::length_permitted;
+use site::name_in;
 use site::name_rule;
 use site::parent_rule;
 use site::percolation_rule;
@@ -30,30 +31,11 @@ use site::stand_rule;
 use site::texture_rule;
 use site::word_at;
 
-fn entry_at(value: &[u8], i: usize) -> Entry
-    requires { ⌜ i ≤ 12 ⌝ }
-    ensures { λ r. ⌜ r ≡ entryAt (now (value .entry)) i ⌝ }
-{
-    Entry {
-        species: byte(value, i),
-        share: byte(value, i + 1),
-        yield_kg: word_at(value, i + 2),
-    }
-}
-
 fn store_name(site: Site, value: &[u8]) -> Taken
     requires { ⌜ length (now value) ≤ 8 ⌝ }
     ensures { λ r. ⌜ Stored 1 (now (value .entry)) site r ⌝ }
 {
-    let b0 = byte(value, 0);
-    let b1 = byte(value, 1);
-    let b2 = byte(value, 2);
-    let b3 = byte(value, 3);
-    let b4 = byte(value, 4);
-    let b5 = byte(value, 5);
-    let b6 = byte(value, 6);
-    let b7 = byte(value, 7);
-    let name = [b0, b1, b2, b3, b4, b5, b6, b7];
+    let name = name_in(value);
     let n = value.len() as u8;
     let checked = name_rule(name, n);
     let mut s = site;

@@ -14,7 +14,8 @@ use Rattle.site.specs.declared.Site.{Site}
 use Rattle.site.specs.declared.Entry.{Entry}
 use Rattle.site.specs.Bounds.{noEntry}
 use Rattle.site.proofs.Tests.{le-or-lt}
-use Rattle.field.specs.Field.{values, value, entriesBytes, tabulate}
+use Rattle.site.specs.Bytes.{tabulate}
+use Rattle.field.specs.Field.{values, value, entriesBytes}
 use Rattle.field.proofs.TabulateLaws.{tabulate-getD}
 use Rattle.field.proofs.EntryLaws.{entries-take}
 

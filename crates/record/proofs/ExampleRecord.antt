@@ -3,7 +3,8 @@ use mathlib.Core.Path.{_≡_, refl}
 use mathlib.Core.List.{List, [], _∷_}
 use Prim.Native.Nat.{ℕ}
 use Rattle.site.specs.ExampleSite.{a1}
-use Rattle.field.specs.Field.{tabulate, entryAt, store, entriesBytes, blankSite, value}
+use Rattle.site.specs.Bytes.{tabulate, entryAt}
+use Rattle.field.specs.Field.{store, entriesBytes, blankSite, value}
 use Rattle.field.specs.Kind.{fieldRule}
 use Rattle.site.specs.Values.{lengthPermitted, valueRule, standRule, between, nameByte, allOf, entryRanged, risingFrom, sharesOf}
 use Rattle.record.specs.FieldParts.{fieldOf}

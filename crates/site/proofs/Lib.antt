@@ -1,4 +1,5 @@
 pub mod Tests
+pub mod PastLaws
 pub mod BelowLaws
 pub mod MatchLaws
 pub mod Passing

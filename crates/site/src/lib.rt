@@ -11,6 +11,8 @@ mod value;
 mod widen;
 
 pub use bytes::byte;
+pub use bytes::entry_at;
+pub use bytes::name_in;
 pub use bytes::word;
 pub use bytes::word_at;
 pub use check::check_site;

@@ -3,8 +3,8 @@ use borrow.Author.Needs.{needs}
 use Rattle.exports.proofs.layout.site_in.Statement.{statement}
 use Rattle.exports.proofs.layout.site_in.Tie as tie
 
-name-requires : tie.Need-name-requires
-name-requires c κs = search needs
+name-in-requires : tie.Need-name-in-requires
+name-in-requires c κs = search needs
 
 stand-requires : tie.Need-stand-requires
 stand-requires c κs = search needs
@@ -82,14 +82,14 @@ returns c =
       c .before .before .before .before .before .before .before .before .before .before .before .before .before .before .before .byte2 .ensures,
       c .before .before .before .before .before .before .before .before .before .before .before .before .before .before .before .before .byte .ensures,
       c .before .before .before .before .before .before .before .before .before .before .before .before .before .before .before .before .before .stand .ensures,
-      c .before .before .before .before .before .before .before .before .before .before .before .before .before .before .before .before .before .before .name .ensures,
+      c .before .before .before .before .before .before .before .before .before .before .before .before .before .before .before .before .before .before .name-in .ensures,
     )
 
 pub site-in-spec : {M : Type 1} → statement M
 site-in-spec =
     tie.close
     (tie.spec
-    name-requires
+    name-in-requires
     stand-requires
     byte-requires
     byte-requires-2

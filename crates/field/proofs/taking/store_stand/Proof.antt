@@ -1,5 +1,6 @@
 use borrow.Author.Needs.{needs}
-use Rattle.field.specs.Field.{tabulate, store}
+use Rattle.site.specs.Bytes.{tabulate}
+use Rattle.field.specs.Field.{store}
 use Rattle.site.specs.Values.{valueRule}
 use Rattle.field.proofs.taking.store_stand.Statement.{statement}
 use Rattle.field.proofs.taking.store_stand.Tie as tie

@@ -4,7 +4,7 @@ use native.Mathlib.Omega.{arith}
 use lib.ListN.{length, take}
 use lib.Seq.{length-take-le}
 use borrow.Author.Needs.{needs}
-use Rattle.field.specs.Field.{tabulate}
+use Rattle.site.specs.Bytes.{tabulate}
 use Rattle.record.proofs.ContentLaws.{nameBytes, name-value, capped}
 use Rattle.record.proofs.value.name_value.Statement.{statement}
 use Rattle.record.proofs.value.name_value.Tie as tie

@@ -6,7 +6,8 @@ use lib.ListN.{length, take}
 use lib.Seq.{length-take-le}
 use Rattle.site.specs.declared.Entry.{Entry}
 use borrow.Author.Needs.{needs}
-use Rattle.field.specs.Field.{entriesBytes, tabulate}
+use Rattle.site.specs.Bytes.{tabulate}
+use Rattle.field.specs.Field.{entriesBytes}
 use Rattle.record.proofs.ContentLaws.{stand-value, capped}
 use Rattle.field.proofs.EntryLaws.{length-entries}
 use Rattle.record.proofs.value.stand_value.Statement.{statement}

@@ -1,19 +1,12 @@
-use mathlib.Core.Path.{_≡_}
-use Prim.Native.Nat.{_+_}
-use native.Mathlib.Omega.{arith}
-use lib.ListN.{getD, List·getD-eq-default}
+use mathlib.Core.Path.{sym}
 use denote.Ref.{now}
 use borrow.Author.Needs.{needs}
+use Rattle.site.proofs.PastLaws.{word-past}
 use Rattle.site.proofs.bytes.word_at.Statement.{statement}
 use Rattle.site.proofs.bytes.word_at.Tie as tie
 
 returns : tie.Need-returns
-returns c =
-    let s = now (c .before .before .args .s) in
-    let i = c .before .before .args .i in
-    let a : getD s i 0 ≡ 0 = List·getD-eq-default s 0 (c .if1 .taken) in
-    let b : getD s (i + 1) 0 ≡ 0 = List·getD-eq-default s 0 (omega (arith, c .if1 .taken)) in
-    rw (a, b)
+returns c = let a = c .before .before .args in sym (word-past (now (a .s)) (a .i) (c .if1 .taken))
 
 shared-slice-read-word : tie.Need-shared-slice-read-word
 shared-slice-read-word c = search needs

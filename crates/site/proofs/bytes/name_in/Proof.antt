@@ -1,7 +1,7 @@
-use Rattle.exports.specs.Layout.{siteIn}
 use borrow.Author.Needs.{needs}
-use Rattle.exports.proofs.layout.name.Statement.{statement}
-use Rattle.exports.proofs.layout.name.Tie as tie
+use Rattle.site.specs.Bytes.{tabulate}
+use Rattle.site.proofs.bytes.name_in.Statement.{statement}
+use Rattle.site.proofs.bytes.name_in.Tie as tie
 
 byte-requires : tie.Need-byte-requires
 byte-requires c κs = search needs
@@ -28,11 +28,11 @@ byte-requires-8 : tie.Need-byte-requires-8
 byte-requires-8 c κs = search needs
 
 returns : tie.Need-returns
-unfolding siteIn
+unfolding tabulate
 returns c = cc
 
-pub name-spec : {M : Type 1} → statement M
-name-spec =
+pub name-in-spec : {M : Type 1} → statement M
+name-in-spec =
     tie.close
     (tie.spec
     byte-requires
