@@ -1,4 +1,4 @@
-# Sourced by run and bench: goes to the root of the repository and keeps all that is built under its target/.
+# Sourced by run, bench and stack: goes to the root of the repository and keeps all that is built under its target/.
 [ -z "${FOREST_LIB:-}" ] || FOREST_LIB=$(realpath "$FOREST_LIB")
 [ -z "${FOREST_PROGRAM:-}" ] || FOREST_PROGRAM=$(realpath "$FOREST_PROGRAM")
 cd "$(dirname "${BASH_SOURCE[0]}")/../../.."
@@ -23,4 +23,9 @@ build_program() {
     FOREST_PROGRAM=$PWD/target/bin/unit
     ! outdated "$FOREST_PROGRAM" || rt check unit
   fi
+}
+
+# A C program of this folder, by its name, linked with the library.
+build_c() {
+  gcc -std=c11 -O2 -Wall -Wextra -Werror -Idocs -Wl,-z,now -o "$CARGO_TARGET_DIR/$1" "docs/src/compare/$1.c" "$FOREST_LIB/libexports.a"
 }
