@@ -15,7 +15,7 @@ use Rattle.record.specs.ReadAnswers.{accepted, readOf}
 use Rattle.record.specs.Outer.{siteAt, readRecord}
 use Rattle.record.specs.Writer.{encode}
 
-abbrev bytesA1 : List ℕ
+abbrev pub bytesA1 : List ℕ
 bytesA1 =
     82 ∷ 0 ∷ 75
     ∷ 1 ∷ 0 ∷ 2 ∷ 65 ∷ 49

@@ -14,3 +14,4 @@ pub mod SiteFile
 pub mod RoundTrip
 pub mod RecordWritten
 pub mod ExampleRecord
+pub mod ExampleRefusals
