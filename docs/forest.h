@@ -15,7 +15,7 @@
  *   40  gibbsite constant, 2    42  hydrogen ceiling, 2     44  acceptable nitrogen in leachate, 2
  *   46  deposition S, 2         48  deposition N, 2
  *
- * Every content of the 50 bytes is a site value, a bad one is refused by rules 7 to 10; another length than 50 is refused by 7.
+ * Any 50 bytes are a site value; a bad one is refused by rules 7 to 10, another length by 7.
  *
  * What a call asks:
  *   - a pointer is valid for its length: its elements may be read, those of `out` written, and nothing else writes them

@@ -289,7 +289,7 @@ fn weathering_by_parent_material_and_texture() {
 
 #[test]
 fn denitrification_by_drainage() {
-    // CLnutN is 205 and 40,000 / e, down.
+    // CLnutN is 205 plus 40,000 / e, down.
     for (drainage, expected) in (0..).zip([245, 249, 255, 271, 338, 405]) {
         let site = Site {
             drainage,
