@@ -1,5 +1,5 @@
 -- The lines of a listing, and the last word of each.
-use Prim.Native.Nat.{ℕ, zero, suc, _+_, _≤_, _<_}
+use Prim.Native.Nat.{ℕ, zero, suc, _+_, _<_}
 use mathlib.Core.Path.{_≡_, refl, ap, _∙_}
 use mathlib.Core.Bool.{true}
 use mathlib.Core.List.{List, [], _∷_, _++_, append-assoc, map}
@@ -10,7 +10,7 @@ use Rattle.judgement.specs.declared.Verdict.{Verdict}
 use Rattle.judgement.specs.declared.Verdict.the-variants.{Within, Over}
 use Rattle.text.specs.declared.Row.{Row}
 use Rattle.text.specs.declared.Listed.{Listed}
-use Rattle.text.specs.TextLengths.{mostText}
+use Rattle.text.specs.TextAnswer.{Enough}
 use Rattle.text.specs.Decimal.{decimal}
 use Rattle.output.specs.Writing.{each}
 use Rattle.judgement.specs.Verdicts.{verdictWord}
@@ -101,10 +101,10 @@ pub mark-of : (rs : List Row) (k : ℕ) → Plain rs → k < length rs → lastW
 mark-of rs k h l = ap lastWord (line-of rs k h l) ∙ body-mark (getD rs k noRow)
 
 -- the same of what a call has written
-pub marked : (rs : List Row) (d e : List ℕ) (r : Listed) → Answered mostText (listing rs) d e r → Marked rs e r
+pub marked : (rs : List Row) (d e : List ℕ) (r : Listed) → Answered (listing rs) d e r → Marked rs e r
 marked rs d e r a n k b p l = rw (written (listing rs) d e r (a .answer) (a .buffer) n b) (mark-of rs k p l)
 
 -- the clauses of a call that lists
-pub and-marked : (rs : List Row) (d : List ℕ) {e : List ℕ} {r : Listed} → Answered mostText (listing rs) d e r
-    → Clauses mostText (listing rs) d e r ((length (listing rs) ≤ mostText) × Marked rs e r)
+pub and-marked : (rs : List Row) (d : List ℕ) {e : List ℕ} {r : Listed} → Answered (listing rs) d e r
+    → Clauses (listing rs) d e r (Enough (listing rs) d r × Marked rs e r)
 and-marked rs d {e} {r} a = clauses-then a (marked rs d e r a)
