@@ -24,7 +24,7 @@ use Rattle.record.specs.Records.{mostRecord}
 use Rattle.record.proofs.ResultLaws.{not-good}
 use Rattle.record.proofs.SiteFile.{sites-fault-near}
 use Rattle.listing.specs.Rows.{rowOf, padded, walkedOf}
-use Rattle.listing.specs.Reports.{listAnswer, listNumbers, listHeld, printed, reportOf}
+use Rattle.listing.specs.Reports.{listAnswer, listNumbers, listHeld, ListEnough, printed, reportOf}
 use Rattle.listing.specs.PrintedDemand3.{WrittenDemand3}
 use Rattle.listing.proofs.Demand3Laws.{listing-says}
 
@@ -63,23 +63,32 @@ by-sites x d p = rw (← x .rows) (by-clauses-then p)
 -- the clauses of the call that lists
 abbrev ListClauses : List ℕ → List ℕ → List ℕ → Listed → Type 0
 ListClauses f d e r =
-    (r ≡ listAnswer (contents f) d) × ((e ≡ listHeld (contents f) d) × ((listedNumbers r ≡ listNumbers (contents f) d) × (((n : ℕ) → r ≡ Count n → n ≤ mostText) × WrittenDemand3 f e r)))
+    (r ≡ listAnswer (contents f) d) × ((e ≡ listHeld (contents f) d) × ((listedNumbers r ≡ listNumbers (contents f) d) × (ListEnough f d r × WrittenDemand3 f e r)))
 
 written3 : (f d : List ℕ) {e : List ℕ} {r : Listed} (ss : List Site) → contents f ≡ good ss → Answered (listing (map rowOf ss)) d e r → WrittenDemand3 f e r
 written3 f d {e} {r} ss h a n b ts g =
     let same : ss ≡ ts = cc in
     rw (written (listing (map rowOf ss)) d e r (a .answer) (a .buffer) n b, same) (listing-says f ts g)
 
-counted : (ss : List Site) (d : List ℕ) {e : List ℕ} {r : Listed} → Answered (listing (map rowOf ss)) d e r → (n : ℕ) → r ≡ Count n → n ≤ mostText
-counted ss d {e} {r} a n b = omega (arith, count-is (listing (map rowOf ss)) d r (a .answer) n b, a .enough .bounded)
+list-enough : (f d : List ℕ) {e : List ℕ} {r : Listed} (ss : List Site) → contents f ≡ good ss → Answered (listing (map rowOf ss)) d e r → ListEnough f d r
+list-enough f d ss h a ts g = let same : ss ≡ ts = cc in rw (← same) (a .enough)
 
 pub listed-sites : (f d : List ℕ) {e : List ℕ} {r : Listed} (ss : List Site) → contents f ≡ good ss → Answered (listing (map rowOf ss)) d e r → ListClauses f d e r
 unfolding listAnswer listHeld listNumbers
-listed-sites f d ss h a = (rw h (a .answer), (rw h (a .buffer), (rw h (a .numbers), (counted ss d a, written3 f d ss h a))))
+listed-sites f d ss h a = (rw h (a .answer), (rw h (a .buffer), (rw h (a .numbers), (list-enough f d ss h a, written3 f d ss h a))))
 
 pub listed-fault : (f d : List ℕ) {rule : Rule} {at : ℕ} → contents f ≡ fault rule at → ListClauses f d d (Refused rule at)
 unfolding listAnswer listHeld listNumbers listedNumbers
-listed-fault f d h = (rw h, (rw h, (rw h, (λ n b. let z : _≡_ {A = ℕ} 0 1 = cc in absurd (omega arith), λ n b. let z : _≡_ {A = ℕ} 0 1 = cc in absurd (omega arith)))))
+listed-fault f d h = (rw h, (rw h, (rw h, (λ ss g. not-good (sym h ∙ g), λ n b. let z : _≡_ {A = ℕ} 0 1 = cc in absurd (omega arith)))))
+
+-- no listing is longer than the longest
+pub list-count : (f d : List ℕ) {n : ℕ} → listAnswer (contents f) d ≡ Count n → ListEnough f d (Count n) → n ≤ mostText
+unfolding listAnswer
+list-count f d {n} is most = by-contents (contents f) refl is
+  where
+    by-contents : (c : Contents Site) → contents f ≡ c → listAnswer c d ≡ Count n → n ≤ mostText
+    by-contents (good ss) q e = omega (arith, count-is (listing (map rowOf ss)) d _ refl n e, most ss q .bounded)
+    by-contents (fault k i) q e = let z : _≡_ {A = ℕ} 0 1 = cc in absurd (omega arith)
 
 -- no refusal lies past 500 records of the greatest length
 pub list-fault-near : (f d : List ℕ) {rule : Rule} {at : ℕ} → listAnswer (contents f) d ≡ Refused rule at → at ≤ mostRecord * mostRecords
