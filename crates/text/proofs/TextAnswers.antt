@@ -19,7 +19,7 @@ use Rattle.text.specs.declared.Listed.the-variants.{Count, Refused}
 use Rattle.text.specs.TextAnswer.{listedNumbers, textAnswer, Enough}
 use Rattle.text.specs.TextLengths.{mostText}
 
--- the promises of a call that writes text into a lent buffer d
+-- the promises of a call that writes text into a lent buffer, which held d and then holds e
 pub record Answered (text d e : List ℕ) (r : Listed) : Type 0 where
   pub answer : r ≡ textAnswer text d
   pub buffer : e ≡ held text d
