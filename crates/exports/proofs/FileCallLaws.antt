@@ -8,10 +8,10 @@ use Rattle.site.specs.declared.Rule.{Rule}
 use Rattle.text.specs.declared.Listed.{Listed}
 use Rattle.text.specs.declared.Listed.the-variants.{Count, Refused}
 use Rattle.text.specs.TextLengths.{mostText}
-use Rattle.text.specs.TextAnswer.{textAnswer, Enough}
+use Rattle.text.specs.TextAnswer.{textAnswer, RoomEnough}
 use Rattle.text.proofs.TextAnswers.{count-is, refused-at-0}
 use Rattle.record.specs.File.{contents}
-use Rattle.listing.specs.Reports.{listAnswer, ListEnough, reportOf}
+use Rattle.listing.specs.Reports.{listAnswer, ListRoomEnough, reportOf}
 use Rattle.listing.specs.PrintedDemand3.{Demand3, WrittenDemand3}
 use Rattle.listing.proofs.ListLaws.{list-count, list-fault-near}
 use Rattle.exports.specs.Codes.{codeBase, listedCode, Decodes}
@@ -29,14 +29,14 @@ module _ (f : List ℕ) (answer l : Listed) (e : List ℕ) (r : ℕ) (is : l ≡
 
 -- the listing
 pub list-decoded :
-    (f d : List ℕ) (l : Listed) (e : List ℕ) (r : ℕ) → l ≡ listAnswer (contents f) d → r ≡ listedCode l → WrittenDemand3 f e l → ListEnough f d l
+    (f d : List ℕ) (l : Listed) (e : List ℕ) (r : ℕ) → l ≡ listAnswer (contents f) d → r ≡ listedCode l → WrittenDemand3 f e l → ListRoomEnough f d l
     → Decodes (listAnswer (contents f) d) r × (r < codeBase → Demand3 f (take r e))
 list-decoded f d l e r is code says most =
     decoded f (listAnswer (contents f) d) l e r is code says (λ n q. list-count f d (sym is ∙ q) (rw q at most)) (λ rule at q. omega (arith, list-fault-near f d q))
 
 -- the report
 pub report-decoded :
-    (f d : List ℕ) (l : Listed) (e : List ℕ) (r : ℕ) → l ≡ textAnswer (reportOf f) d → r ≡ listedCode l → WrittenDemand3 f e l → Enough (reportOf f) d l
+    (f d : List ℕ) (l : Listed) (e : List ℕ) (r : ℕ) → l ≡ textAnswer (reportOf f) d → r ≡ listedCode l → WrittenDemand3 f e l → RoomEnough (reportOf f) d l
     → Decodes (textAnswer (reportOf f) d) r × (r < codeBase → Demand3 f (take r e))
 report-decoded f d l e r is code says most =
     decoded f (textAnswer (reportOf f) d) l e r is code says (λ n q. omega (arith, count-is (reportOf f) d l is n q, most .bounded)) (λ rule at q. omega (arith, refused-at-0 (reportOf f) d q))

@@ -13,7 +13,7 @@ use Rattle.text.specs.declared.Listed.the-variants.{Count, Refused}
 use Rattle.text.specs.TextLengths.{mostText}
 use Rattle.text.specs.Listing.{listing}
 use Rattle.text.specs.RefusalLine.{refusal}
-use Rattle.text.specs.TextAnswer.{listedNumbers, Enough}
+use Rattle.text.specs.TextAnswer.{listedNumbers, RoomEnough}
 use Rattle.text.specs.Marks.{Marked}
 use Rattle.text.proofs.TextAnswers.{Answered, Clauses, clauses-then, by-clauses, by-clauses-then, count-is, refused-at-0, written}
 use Rattle.listing.specs.declared.Walked.{Walked}
@@ -24,7 +24,7 @@ use Rattle.record.specs.Records.{mostRecord}
 use Rattle.record.proofs.ResultLaws.{not-good}
 use Rattle.record.proofs.SiteFile.{sites-fault-near}
 use Rattle.listing.specs.Rows.{rowOf, padded, walkedOf}
-use Rattle.listing.specs.Reports.{listAnswer, listNumbers, listHeld, ListEnough, printed, reportOf}
+use Rattle.listing.specs.Reports.{listAnswer, listNumbers, listHeld, ListRoomEnough, printed, reportOf}
 use Rattle.listing.specs.PrintedDemand3.{WrittenDemand3}
 use Rattle.listing.proofs.Demand3Laws.{listing-says}
 
@@ -54,7 +54,7 @@ found-fault c is e = walked-fault c (rw is at e)
 
 -- what a call has written of the rows, by the sites
 pub by-sites : {w : Walked} {c : Contents Site} (x : Filled w c) (d : List ℕ) {e : List ℕ} {r : Listed}
-    → Clauses (listing (take (w .count) (w .rows))) d e r (Enough (listing (take (w .count) (w .rows))) d r × Marked (take (w .count) (w .rows)) e r)
+    → Clauses (listing (take (w .count) (w .rows))) d e r (RoomEnough (listing (take (w .count) (w .rows))) d r × Marked (take (w .count) (w .rows)) e r)
     → Answered (listing (map rowOf (x .ss))) d e r
 by-sites x d p = rw (← x .rows) (by-clauses-then p)
 
@@ -63,14 +63,14 @@ by-sites x d p = rw (← x .rows) (by-clauses-then p)
 -- the clauses of the call that lists
 abbrev ListClauses : List ℕ → List ℕ → List ℕ → Listed → Type 0
 ListClauses f d e r =
-    (r ≡ listAnswer (contents f) d) × ((e ≡ listHeld (contents f) d) × ((listedNumbers r ≡ listNumbers (contents f) d) × (ListEnough f d r × WrittenDemand3 f e r)))
+    (r ≡ listAnswer (contents f) d) × ((e ≡ listHeld (contents f) d) × ((listedNumbers r ≡ listNumbers (contents f) d) × (ListRoomEnough f d r × WrittenDemand3 f e r)))
 
 written3 : (f d : List ℕ) {e : List ℕ} {r : Listed} (ss : List Site) → contents f ≡ good ss → Answered (listing (map rowOf ss)) d e r → WrittenDemand3 f e r
 written3 f d {e} {r} ss h a n b ts g =
     let same : ss ≡ ts = cc in
     rw (written (listing (map rowOf ss)) d e r (a .answer) (a .buffer) n b, same) (listing-says f ts g)
 
-list-enough : (f d : List ℕ) {e : List ℕ} {r : Listed} (ss : List Site) → contents f ≡ good ss → Answered (listing (map rowOf ss)) d e r → ListEnough f d r
+list-enough : (f d : List ℕ) {e : List ℕ} {r : Listed} (ss : List Site) → contents f ≡ good ss → Answered (listing (map rowOf ss)) d e r → ListRoomEnough f d r
 list-enough f d ss h a ts g = let same : ss ≡ ts = cc in rw (← same) (a .enough)
 
 pub listed-sites : (f d : List ℕ) {e : List ℕ} {r : Listed} (ss : List Site) → contents f ≡ good ss → Answered (listing (map rowOf ss)) d e r → ListClauses f d e r
@@ -82,7 +82,7 @@ unfolding listAnswer listHeld listNumbers listedNumbers
 listed-fault f d h = (rw h, (rw h, (rw h, (λ ss g. not-good (sym h ∙ g), λ n b. let z : _≡_ {A = ℕ} 0 1 = cc in absurd (omega arith)))))
 
 -- no listing is longer than the longest
-pub list-count : (f d : List ℕ) {n : ℕ} → listAnswer (contents f) d ≡ Count n → ListEnough f d (Count n) → n ≤ mostText
+pub list-count : (f d : List ℕ) {n : ℕ} → listAnswer (contents f) d ≡ Count n → ListRoomEnough f d (Count n) → n ≤ mostText
 unfolding listAnswer
 list-count f d {n} is most = by-contents (contents f) refl is
   where
@@ -103,7 +103,7 @@ list-fault-near f d {rule} {at} e = by-contents (contents f) refl e
 
 -- the clauses of the call that reports
 abbrev pub Reported : List ℕ → List ℕ → List ℕ → Listed → Type 0
-Reported f d e r = Clauses (reportOf f) d e r (Enough (reportOf f) d r × WrittenDemand3 f e r)
+Reported f d e r = Clauses (reportOf f) d e r (RoomEnough (reportOf f) d r × WrittenDemand3 f e r)
 
 reported : (f d : List ℕ) {e : List ℕ} {r : Listed} → Answered (reportOf f) d e r → WrittenDemand3 f e r → Reported f d e r
 reported f d a w = clauses-then a w
@@ -112,6 +112,6 @@ pub reported-sites : (f d : List ℕ) {e : List ℕ} {r : Listed} (ss : List Sit
 unfolding reportOf printed
 reported-sites f d ss h a = reported f d (rw h a) (written3 f d ss h a)
 
-pub reported-fault : (f d : List ℕ) {e : List ℕ} {r : Listed} {rule : Rule} {at : ℕ} → contents f ≡ fault rule at → Clauses (refusal rule at) d e r (Enough (refusal rule at) d r) → Reported f d e r
+pub reported-fault : (f d : List ℕ) {e : List ℕ} {r : Listed} {rule : Rule} {at : ℕ} → contents f ≡ fault rule at → Clauses (refusal rule at) d e r (RoomEnough (refusal rule at) d r) → Reported f d e r
 unfolding reportOf printed
 reported-fault f d h a = reported f d (rw h (by-clauses a)) (λ n b ss g. not-good (sym h ∙ g))

@@ -10,7 +10,7 @@ use Rattle.judgement.specs.declared.Verdict.{Verdict}
 use Rattle.judgement.specs.declared.Verdict.the-variants.{Within, Over}
 use Rattle.text.specs.declared.Row.{Row}
 use Rattle.text.specs.declared.Listed.{Listed}
-use Rattle.text.specs.TextAnswer.{Enough}
+use Rattle.text.specs.TextAnswer.{RoomEnough}
 use Rattle.text.specs.Decimal.{decimal}
 use Rattle.output.specs.Writing.{each}
 use Rattle.judgement.specs.Verdicts.{verdictWord}
@@ -106,5 +106,5 @@ marked rs d e r a n k b p l = rw (written (listing rs) d e r (a .answer) (a .buf
 
 -- the clauses of a call that lists
 pub and-marked : (rs : List Row) (d : List ℕ) {e : List ℕ} {r : Listed} → Answered (listing rs) d e r
-    → Clauses (listing rs) d e r (Enough (listing rs) d r × Marked rs e r)
+    → Clauses (listing rs) d e r (RoomEnough (listing rs) d r × Marked rs e r)
 and-marked rs d {e} {r} a = clauses-then a (marked rs d e r a)

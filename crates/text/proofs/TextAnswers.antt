@@ -16,7 +16,7 @@ use Rattle.output.proofs.WritingLaws.{in-front}
 use Rattle.output.proofs.OutputLaws.{room-enough, room-short}
 use Rattle.text.specs.declared.Listed.{Listed}
 use Rattle.text.specs.declared.Listed.the-variants.{Count, Refused}
-use Rattle.text.specs.TextAnswer.{listedNumbers, textAnswer, Enough}
+use Rattle.text.specs.TextAnswer.{listedNumbers, textAnswer, RoomEnough}
 use Rattle.text.specs.TextLengths.{mostText}
 
 -- the promises of a call that writes text into a lent buffer, which held d and then holds e
@@ -24,23 +24,23 @@ pub record Answered (text d e : List ℕ) (r : Listed) : Type 0 where
   pub answer : r ≡ textAnswer text d
   pub buffer : e ≡ held text d
   pub numbers : listedNumbers r ≡ heldNumbers text d
-  pub enough : Enough text d r
+  pub enough : RoomEnough text d r
 
 -- the same as clauses of its contract, the last with what follows them
 abbrev pub Clauses : (text d e : List ℕ) → Listed → Type 0 → Type 0
 Clauses text d e r Last = (r ≡ textAnswer text d) × ((e ≡ held text d) × ((listedNumbers r ≡ heldNumbers text d) × Last))
 
 module _ {text d e : List ℕ} {r : Listed} where
-  pub as-clauses : Answered text d e r → Clauses text d e r (Enough text d r)
+  pub as-clauses : Answered text d e r → Clauses text d e r (RoomEnough text d r)
   as-clauses a = (a .answer, (a .buffer, (a .numbers, a .enough)))
 
-  pub clauses-then : {More : Type 0} → Answered text d e r → More → Clauses text d e r (Enough text d r × More)
+  pub clauses-then : {More : Type 0} → Answered text d e r → More → Clauses text d e r (RoomEnough text d r × More)
   clauses-then a m = (a .answer, (a .buffer, (a .numbers, (a .enough, m))))
 
-  pub by-clauses : Clauses text d e r (Enough text d r) → Answered text d e r
+  pub by-clauses : Clauses text d e r (RoomEnough text d r) → Answered text d e r
   by-clauses c = record { answer = c .0; buffer = c .1 .0; numbers = c .1 .1 .0; enough = c .1 .1 .1 }
 
-  pub by-clauses-then : {More : Type 0} → Clauses text d e r (Enough text d r × More) → Answered text d e r
+  pub by-clauses-then : {More : Type 0} → Clauses text d e r (RoomEnough text d r × More) → Answered text d e r
   by-clauses-then c = record { answer = c .0; buffer = c .1 .0; numbers = c .1 .1 .0; enough = c .1 .1 .1 .0 }
 
 pub text-refused : (text d : List ℕ) → length d < length text → length text ≤ mostText → Answered text d d (Refused BufferShort 0)

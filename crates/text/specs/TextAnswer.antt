@@ -20,6 +20,6 @@ abbrev pub textAnswer : List ℕ → List ℕ → Listed
 textAnswer text d = answerIf Count (λ rule. Refused rule 0) (roomRule (length text) (length d)) (length text)
 
 -- the text has at most mostText bytes, so where d has as many, 11 never comes
-pub record Enough (text d : List ℕ) (r : Listed) : Type 0 where
+pub record RoomEnough (text d : List ℕ) (r : Listed) : Type 0 where
   pub bounded : length text ≤ mostText
   pub fits : mostText ≤ length d → r ≡ Count (length text)
