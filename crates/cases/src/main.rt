@@ -1,5 +1,5 @@
 // Runs the vectors of standard input through the calls and prints what each gives.
-// A line is a comment, from `#` on, which is printed as it is, or a letter and then bytes in hexadecimal with spaces between them as one likes:
+// A line is a comment, from `#` on, which is printed as it is, or a letter and then bytes in hexadecimal, with capital letters; spaces are skipped:
 //   F  a file: its report
 //   R  a single record: read, written again into a buffer that is long enough, and shown in hexadecimal
 //   S  the same with a buffer one byte shorter than the record
@@ -34,7 +34,7 @@ fn digit_value(b: u8) -> u8
     16
 }
 
-// The last digit of x.
+// The last hexadecimal digit of x.
 fn digit(x: u8) -> u8 {
     let d = x % 16;
     if d < 10 {
@@ -43,7 +43,7 @@ fn digit(x: u8) -> u8 {
     55 + d
 }
 
-// The bytes of a line in hexadecimal, as many as out holds; other characters stand between bytes.
+// The bytes of a line in hexadecimal, as many as out holds; other characters are skipped.
 fn decode(line: &[u8], out: &mut [u8]) -> usize
     ensures { λ r. ⌜ Counts r (now (out .exit)) ⌝ }
 {

@@ -1,12 +1,8 @@
 -- A result below 2³² is a count and any other a refusal, since no count reaches 2³² and every rule has a number from 1 on.
 use Prim.Native.Nat.{ℕ, _≤_, _<_}
 use mathlib.Core.Path.{_≡_, refl, _∙_}
-use mathlib.Core.List.{List, [], _∷_}
 use native.Mathlib.Omega.{arith}
 use native.Mathlib.Nat.{mod-eq-of-lt}
-use lib.ListN.{length, getD}
-use Rattle.site.specs.Bytes.{tabulate}
-use Rattle.field.proofs.TabulateLaws.{tabulate-getD}
 use Rattle.site.specs.Refusal.{ruleNumber}
 use Rattle.site.specs.ByCheck.{answerIf}
 use Rattle.site.specs.declared.Rule.{Rule}
@@ -15,7 +11,7 @@ use Rattle.site.specs.declared.Checked.{Checked}
 use Rattle.site.specs.declared.Checked.the-variants.{Passed, Broken}
 use Rattle.text.specs.declared.Listed.{Listed}
 use Rattle.text.specs.declared.Listed.the-variants.{Count, Refused}
-use Rattle.exports.specs.Results.{codeBase, refusalCode, codeIf, listedCode, Told}
+use Rattle.exports.specs.Codes.{codeBase, refusalCode, codeIf, listedCode, Decodes}
 
 -- 01's numbers are 1 to 11
 pub number-range : (r : Rule) → (1 ≤ ruleNumber r) × (ruleNumber r ≤ 11)
@@ -37,27 +33,22 @@ unfolding listedCode refusalCode
 count-below (Count n) e h = rw e
 count-below (Refused rule at) e h = absurd (omega (arith, number-range rule .0))
 
-pub told : (l : Listed) {r : ℕ} → r ≡ listedCode l → ((n : ℕ) → l ≡ Count n → n < codeBase) → ((rule : Rule) (at : ℕ) → l ≡ Refused rule at → at < codeBase) → Told l r
+pub decodes : (l : Listed) {r : ℕ} → r ≡ listedCode l → ((n : ℕ) → l ≡ Count n → n < codeBase) → ((rule : Rule) (at : ℕ) → l ≡ Refused rule at → at < codeBase) → Decodes l r
 unfolding listedCode refusalCode
-told l e small near = record {
+decodes l e small near = record {
   below = count-below l e;
   count = λ n q. (rw q at e, rw (rw q at e) (small n q));
   refusal = λ rule at q. (rw q at e ∙ rw (mod-eq-of-lt (near rule at q)), near rule at q);
 }
 
--- and so is any of them that a check gives
+-- a code below 2³² that a check gives: the check has passed
 pub code-passed : (c : Checked) (n : ℕ) → codeIf c n < codeBase → c ≡ Passed
 unfolding codeIf refusalCode
 code-passed Passed n h = refl
 code-passed (Broken rule) n h = absurd (omega (arith, number-range rule .0))
 
--- the code of a writing's answer
+-- the code of the answer of a write
 pub code-is : (c : Checked) (n : ℕ) → codeIf c n ≡ listedCode (answerIf Count (λ rule. Refused rule 0) c n)
 unfolding codeIf listedCode answerIf
 code-is Passed n = refl
 code-is (Broken r) n = refl
-
--- an array of four numbers
-pub four : (l : List ℕ) → length l ≡ 4 → getD l 0 0 ∷ getD l 1 0 ∷ getD l 2 0 ∷ getD l 3 0 ∷ [] ≡ l
-unfolding tabulate
-four l e = rw e at (tabulate-getD l 0)

@@ -22,10 +22,10 @@ use Rattle.record.proofs.RoundTrip.{accepted-is, read-passes, read-short, read-
 use Rattle.record.specs.Records.{mostRecord}
 use Rattle.text.specs.declared.Listed.the-variants.{Count as Listed·Count, Refused as NotListed}
 use Rattle.text.proofs.TextAnswers.{count-is, refused-at-0}
-use Rattle.exports.specs.Results.{refusalCode, codeIf, listedCode, Told, rewriteAnswer, rewriteHeld}
-use Rattle.exports.proofs.CodeLaws.{told, code-is}
+use Rattle.exports.specs.Codes.{refusalCode, codeIf, listedCode, Decodes, rewriteAnswer, rewriteHeld}
+use Rattle.exports.proofs.CodeLaws.{decodes, code-is}
 
--- a writing's answer as a code
+-- the answer of a write as a code
 refused-code : (c : Checked) (n : ℕ) (r : Rule) → writeAnswer c n ≡ NotWritten r → refusalCode r 0 ≡ codeIf c n
 unfolding answerIf codeIf
 refused-code Passed n r e = let z : _≡_ {A = ℕ} 0 1 = cc in absurd (omega arith)
@@ -38,12 +38,12 @@ wrote-code (Broken r) n k e = let z : _≡_ {A = ℕ} 0 1 = cc in absurd (omega 
 
 -- the answer for the outcome o of reading b, its code x and the buffer that it leaves
 abbrev Rewritten : (b old : List ℕ) → Outcome → ℕ → List ℕ → Type 0
-Rewritten b old o x new = (x ≡ listedCode (rewriteAnswer o b old)) × ((new ≡ rewriteHeld o b old) × Told (rewriteAnswer o b old) x)
+Rewritten b old o x new = (x ≡ listedCode (rewriteAnswer o b old)) × ((new ≡ rewriteHeld o b old) × Decodes (rewriteAnswer o b old) x)
 
 -- counts and offsets are small: a record has at most 258 bytes
-rewrite-told : (b old : List ℕ) {x : ℕ} → x ≡ listedCode (rewriteAnswer (readRecord b .outcome) b old) → Told (rewriteAnswer (readRecord b .outcome) b old) x
+rewrite-decoded : (b old : List ℕ) {x : ℕ} → x ≡ listedCode (rewriteAnswer (readRecord b .outcome) b old) → Decodes (rewriteAnswer (readRecord b .outcome) b old) x
 unfolding rewriteAnswer
-rewrite-told b old e = told _ e (λ n q. omega (arith, counted (readRecord b .outcome) refl n q)) (λ rule at q. omega (arith, placed (readRecord b .outcome) refl rule at q))
+rewrite-decoded b old e = decodes _ e (λ n q. omega (arith, counted (readRecord b .outcome) refl n q)) (λ rule at q. omega (arith, placed (readRecord b .outcome) refl rule at q))
   where
     counted : (o : Outcome) → readRecord b .outcome ≡ o → (n : ℕ) → rewriteAnswer o b old ≡ Listed·Count n → n ≤ mostRecord
     counted Accepted p n q = omega (arith, count-is b old _ refl n q, read-short b p)
@@ -71,7 +71,7 @@ module _ (b old : List ℕ) (r : Read) (is : r ≡ readRecord b) where
       → Rewritten b old (readRecord b .outcome) (refusalCode rule at) old
   not-read rule at o =
       let code = code-refused rule at o in
-      (code, (held-refused rule at o, rewrite-told b old code))
+      (code, (held-refused rule at o, rewrite-decoded b old code))
 
   module _ (o : r .outcome ≡ Accepted) (again : encode (r .site) ≡ b) (w : Written) (new : List ℕ)
       (answer : w ≡ writeAnswer (writeRule (r .site) (length old)) (length (encode (r .site))))
@@ -94,7 +94,7 @@ module _ (b old : List ℕ) (r : Read) (is : r ≡ readRecord b) where
     held-accepted = rw (outcome-is, o) held-room
 
     accepted-code : {x : ℕ} → x ≡ codeIf (roomRule (length b) (length old)) (length b) → Rewritten b old (readRecord b .outcome) x new
-    accepted-code e = let code = code-accepted e in (code, (held-accepted, rewrite-told b old code))
+    accepted-code e = let code = code-accepted e in (code, (held-accepted, rewrite-decoded b old code))
 
     -- a buffer that is too short, and success
     pub not-written :

@@ -23,7 +23,7 @@ use Rattle.output.specs.Output.{outputRule, heldAfter}
 use Rattle.output.specs.Writing.{Wrote}
 use Rattle.output.proofs.WritingLaws.{in-front}
 use Rattle.output.proofs.OutputLaws.{output-broken, output-short, output-whole, output-passed}
-use Rattle.exports.specs.Results.{refusalCode, codeIf}
+use Rattle.exports.specs.Codes.{refusalCode, codeIf}
 use Rattle.exports.proofs.CodeLaws.{code-passed}
 use Rattle.exports.specs.Layout.{siteIn, valueCheck, loadsNumbers, markNumber, verdictMarked, judgementNumbers}
 

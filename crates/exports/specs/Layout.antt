@@ -1,5 +1,5 @@
 -- A site value as 50 bytes, in the order of the site's values; numbers of two bytes have the high byte first.
-use Prim.Native.Nat.{ℕ, _+_}
+use Prim.Native.Nat.{ℕ}
 use mathlib.Core.List.{List, [], _∷_, _++_}
 use lib.Dec.{eqb}
 use lib.ListN.{getD, length}

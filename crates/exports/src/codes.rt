@@ -1,6 +1,6 @@
 // A refusal as one number.
 ghost use mathlib.Core.Path.{_≡_};
-ghost use Rattle.exports.specs.Results.{refusalCode};
+ghost use Rattle.exports.specs.Codes.{refusalCode};
 use site::Rule;
 use site::rule_number;
 

@@ -7,7 +7,7 @@ ghost use Rattle.text.specs.TextAnswer.{textAnswer};
 ghost use Rattle.record.specs.File.{contents};
 ghost use Rattle.listing.specs.Reports.{listAnswer, listHeld, reportOf};
 ghost use Rattle.listing.specs.PrintedDemand3.{Demand3};
-ghost use Rattle.exports.specs.Results.{codeBase, listedCode, Told};
+ghost use Rattle.exports.specs.Codes.{codeBase, listedCode, Decodes};
 use crate::codes::refusal_code_at;
 use listing::list;
 use listing::report;
@@ -26,7 +26,7 @@ fn listed_code(listed: Listed) -> u64
 pub extern "C" fn forest_list(file: &[u8], out: &mut [u8]) -> u64
     ensures answer { λ r. ⌜ r ≡ listedCode (listAnswer (contents (now (file .entry))) (now (out .entry))) ⌝ }
     ensures buffer { λ _. ⌜ now (out .exit) ≡ listHeld (contents (now (file .entry))) (now (out .entry)) ⌝ }
-    ensures told { λ r. ⌜ Told (listAnswer (contents (now (file .entry))) (now (out .entry))) r ⌝ }
+    ensures decoded { λ r. ⌜ Decodes (listAnswer (contents (now (file .entry))) (now (out .entry))) r ⌝ }
     ensures demand3 { λ r. ⌜ (r < codeBase → Demand3 (now (file .entry)) (take r (now (out .exit)))) ⌝ }
 {
     let listed = list(file, out);
@@ -37,7 +37,7 @@ pub extern "C" fn forest_list(file: &[u8], out: &mut [u8]) -> u64
 pub extern "C" fn forest_report(file: &[u8], out: &mut [u8]) -> u64
     ensures answer { λ r. ⌜ r ≡ listedCode (textAnswer (reportOf (now (file .entry))) (now (out .entry))) ⌝ }
     ensures buffer { λ _. ⌜ now (out .exit) ≡ held (reportOf (now (file .entry))) (now (out .entry)) ⌝ }
-    ensures told { λ r. ⌜ Told (textAnswer (reportOf (now (file .entry))) (now (out .entry))) r ⌝ }
+    ensures decoded { λ r. ⌜ Decodes (textAnswer (reportOf (now (file .entry))) (now (out .entry))) r ⌝ }
     ensures demand3 { λ r. ⌜ (r < codeBase → Demand3 (now (file .entry)) (take r (now (out .exit)))) ⌝ }
 {
     let listed = report(file, out);

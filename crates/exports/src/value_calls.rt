@@ -6,7 +6,7 @@ ghost use Rattle.site.specs.declared.Checked.the-variants.{Passed};
 ghost use Rattle.judgement.specs.Balance.{MarkSays};
 ghost use Rattle.output.specs.Output.{outputRule, heldAfter};
 ghost use Rattle.output.specs.Writing.{Wrote};
-ghost use Rattle.exports.specs.Results.{codeIf};
+ghost use Rattle.exports.specs.Codes.{codeIf};
 ghost use Rattle.exports.specs.Layout.{siteIn, valueCheck, loadsNumbers, judgementNumbers, verdictMarked};
 use crate::codes::refusal_code;
 use crate::layout::site_in;

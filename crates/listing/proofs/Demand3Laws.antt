@@ -4,7 +4,7 @@ use mathlib.Core.Path.{_≡_, refl}
 use mathlib.Core.Bool.{true, false≢true}
 use mathlib.Core.List.{List, [], _∷_, map}
 use native.Mathlib.Omega.{arith}
-use lib.ListN.{length, getD}
+use lib.ListN.{length, getD, length-map}
 use Rattle.site.specs.declared.Site.{Site}
 use Rattle.site.specs.declared.Checked.the-variants.{Passed}
 use Rattle.site.specs.Check.{siteRule}
@@ -16,7 +16,7 @@ use Rattle.judgement.specs.Balance.{Says}
 use Rattle.judgement.specs.Verdicts.{verdictWord}
 use Rattle.judgement.proofs.JudgementAnswers.{judged-says}
 use Rattle.field.specs.Field.{blankSite}
-use Rattle.text.specs.Line.{noRow, nameText}
+use Rattle.text.specs.Line.{blankRow, nameText}
 use Rattle.text.specs.Listing.{listing}
 use Rattle.text.specs.Words.{lastWord, lineAt, free}
 use Rattle.text.specs.Marks.{Plain}
@@ -28,7 +28,7 @@ use Rattle.field.proofs.All.{all-at}
 use Rattle.record.proofs.SiteFile.{sites-checked}
 use Rattle.listing.specs.PrintedDemand3.{LinesSay}
 use Rattle.listing.specs.Rows.{rowBy, rowOf}
-use Rattle.listing.proofs.MapLaws.{length-map, getD-map}
+use Rattle.listing.proofs.MapLaws.{getD-map}
 
 pub says : (s : Site) → siteRule s ≡ Passed → Says (verdictWord (rowOf s .verdict)) s
 unfolding rowOf rowBy
@@ -50,24 +50,24 @@ plain-row : (s : Site) → siteRule s ≡ Passed → free 10 (nameText (rowOf s)
 unfolding rowOf rowBy nameText valueRule
 plain-row s p = name-free _ (ranged-passed _ (site-passed s p 0 (omega arith) .1))
 
--- DEMAND 3 in the listing
+-- demand 3 in the listing
 module _ (f : List ℕ) (ss : List Site) (e : contents f ≡ good ss) where
   passed : (k : ℕ) → k < length ss → siteRule (getD ss k blankSite) ≡ Passed
   passed k h = all-at (sites-checked f ss e .1) k blankSite h
 
-  row-at : (k : ℕ) → k < length ss → getD (map rowOf ss) k noRow ≡ rowOf (getD ss k blankSite)
-  row-at k h = getD-map rowOf ss k blankSite noRow h
+  row-at : (k : ℕ) → k < length ss → getD (map rowOf ss) k blankRow ≡ rowOf (getD ss k blankSite)
+  row-at k h = getD-map rowOf ss k blankSite blankRow h
 
   plain : Plain (map rowOf ss)
-  plain k l = let h : k < length ss = omega (arith, length-map rowOf ss) in rw (row-at k h) (plain-row _ (passed k h))
+  plain k l = let h : k < length ss = omega (arith, length-map ss rowOf) in rw (row-at k h) (plain-row _ (passed k h))
 
   line-says : (k : ℕ) → k < length ss → Says (lastWord (lineAt (suc k) (listing (map rowOf ss)))) (getD ss k blankSite)
-  line-says k h = rw (mark-of (map rowOf ss) k plain (omega (arith, length-map rowOf ss)), row-at k h) (says (getD ss k blankSite) (passed k h))
+  line-says k h = rw (mark-of (map rowOf ss) k plain (omega (arith, length-map ss rowOf)), row-at k h) (says (getD ss k blankSite) (passed k h))
 
   pub listing-says : LinesSay ss (listing (map rowOf ss))
   listing-says = record {
-    lines = omega (arith, line-count (map rowOf ss) plain, length-map rowOf ss);
+    lines = omega (arith, line-count (map rowOf ss) plain, length-map ss rowOf);
     header = line-header (map rowOf ss) plain;
-    nothing-behind = rw (← length-map rowOf ss) (line-behind (map rowOf ss) plain);
+    nothing-behind = rw (← length-map ss rowOf) (line-behind (map rowOf ss) plain);
     says = line-says;
   }

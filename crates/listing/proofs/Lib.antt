@@ -1,5 +1,5 @@
 pub mod MapLaws
-pub mod TurnLaws
+pub mod StepLaws
 pub mod LoopLaws
 pub mod Demand3Laws
 pub mod ListLaws

@@ -3,17 +3,17 @@ use Prim.Native.Nat.{ℕ, _*_, _≤_}
 use mathlib.Core.Path.{_≡_, refl, sym, _∙_}
 use mathlib.Core.List.{List, map}
 use native.Mathlib.Omega.{arith}
-use lib.ListN.{length, take}
+use lib.ListN.{length, take, length-map}
 use lib.Seq.{take-at}
 use Rattle.site.specs.declared.Site.{Site}
 use Rattle.site.specs.declared.Rule.{Rule}
-use Rattle.record.specs.declared.Outcome.the-variants.{Accepted, Refused as Broken}
+use Rattle.record.specs.declared.Outcome.the-variants.{Accepted, Refused as NotAccepted}
 use Rattle.text.specs.declared.Listed.{Listed}
 use Rattle.text.specs.declared.Listed.the-variants.{Count, Refused}
 use Rattle.text.specs.TextLengths.{mostText}
 use Rattle.text.specs.Listing.{listing}
 use Rattle.text.specs.RefusalLine.{refusal}
-use Rattle.text.specs.TextAnswer.{listedNumbers}
+use Rattle.text.specs.TextAnswer.{listedNumbers, RoomEnough}
 use Rattle.text.specs.Marks.{Marked}
 use Rattle.text.proofs.TextAnswers.{Answered, Clauses, clauses-then, by-clauses, by-clauses-then, count-is, refused-at-0, written}
 use Rattle.listing.specs.declared.Walked.{Walked}
@@ -24,9 +24,8 @@ use Rattle.record.specs.Records.{mostRecord}
 use Rattle.record.proofs.ResultLaws.{not-good}
 use Rattle.record.proofs.SiteFile.{sites-fault-near}
 use Rattle.listing.specs.Rows.{rowOf, padded, walkedOf}
-use Rattle.listing.specs.Reports.{listAnswer, listNumbers, listHeld, printed, reportOf}
+use Rattle.listing.specs.Reports.{listAnswer, listNumbers, listHeld, ListRoomEnough, printed, reportOf}
 use Rattle.listing.specs.PrintedDemand3.{WrittenDemand3}
-use Rattle.listing.proofs.MapLaws.{length-map}
 use Rattle.listing.proofs.Demand3Laws.{listing-says}
 
 -- ---- what the walk has found
@@ -39,24 +38,24 @@ pub record Filled (w : Walked) (c : Contents Site) : Type 0 where
 
 walked-sites : (c : Contents Site) → walkedOf c .outcome ≡ Accepted → Filled (walkedOf c) c
 unfolding walkedOf padded
-walked-sites (good ss) e = record { ss = ss; holds = refl; rows = take-at (map rowOf ss) _ (length ss) (length-map rowOf ss) }
+walked-sites (good ss) e = record { ss = ss; holds = refl; rows = take-at (map rowOf ss) _ (length ss) (length-map ss rowOf) }
 walked-sites (fault rule at) e = let z : _≡_ {A = ℕ} 0 1 = cc in absurd (omega arith)
 
 pub found-sites : {w : Walked} (c : Contents Site) → w ≡ walkedOf c → w .outcome ≡ Accepted → Filled w c
 found-sites c is e = rw is (walked-sites c (rw is at e))
 
-walked-fault : (c : Contents Site) {rule : Rule} {at : ℕ} → walkedOf c .outcome ≡ Broken rule at → c ≡ fault rule at
+walked-fault : (c : Contents Site) {rule : Rule} {at : ℕ} → walkedOf c .outcome ≡ NotAccepted rule at → c ≡ fault rule at
 unfolding walkedOf
 walked-fault (good ss) e = cc
 walked-fault (fault rule at) e = cc
 
-pub found-fault : {w : Walked} (c : Contents Site) {rule : Rule} {at : ℕ} → w ≡ walkedOf c → w .outcome ≡ Broken rule at → c ≡ fault rule at
+pub found-fault : {w : Walked} (c : Contents Site) {rule : Rule} {at : ℕ} → w ≡ walkedOf c → w .outcome ≡ NotAccepted rule at → c ≡ fault rule at
 found-fault c is e = walked-fault c (rw is at e)
 
 -- what a call has written of the rows, by the sites
 pub by-sites : {w : Walked} {c : Contents Site} (x : Filled w c) (d : List ℕ) {e : List ℕ} {r : Listed}
-    → Clauses mostText (listing (take (w .count) (w .rows))) d e r ((length (listing (take (w .count) (w .rows))) ≤ mostText) × Marked (take (w .count) (w .rows)) e r)
-    → Answered mostText (listing (map rowOf (x .ss))) d e r
+    → Clauses (listing (take (w .count) (w .rows))) d e r (RoomEnough (listing (take (w .count) (w .rows))) d r × Marked (take (w .count) (w .rows)) e r)
+    → Answered (listing (map rowOf (x .ss))) d e r
 by-sites x d p = rw (← x .rows) (by-clauses-then p)
 
 -- ---- the listing
@@ -64,23 +63,32 @@ by-sites x d p = rw (← x .rows) (by-clauses-then p)
 -- the clauses of the call that lists
 abbrev ListClauses : List ℕ → List ℕ → List ℕ → Listed → Type 0
 ListClauses f d e r =
-    (r ≡ listAnswer (contents f) d) × ((e ≡ listHeld (contents f) d) × ((listedNumbers r ≡ listNumbers (contents f) d) × (((n : ℕ) → r ≡ Count n → n ≤ mostText) × WrittenDemand3 f e r)))
+    (r ≡ listAnswer (contents f) d) × ((e ≡ listHeld (contents f) d) × ((listedNumbers r ≡ listNumbers (contents f) d) × (ListRoomEnough f d r × WrittenDemand3 f e r)))
 
-written3 : (f d : List ℕ) {e : List ℕ} {r : Listed} (ss : List Site) → contents f ≡ good ss → Answered mostText (listing (map rowOf ss)) d e r → WrittenDemand3 f e r
+written3 : (f d : List ℕ) {e : List ℕ} {r : Listed} (ss : List Site) → contents f ≡ good ss → Answered (listing (map rowOf ss)) d e r → WrittenDemand3 f e r
 written3 f d {e} {r} ss h a n b ts g =
     let same : ss ≡ ts = cc in
     rw (written (listing (map rowOf ss)) d e r (a .answer) (a .buffer) n b, same) (listing-says f ts g)
 
-counted : (ss : List Site) (d : List ℕ) {e : List ℕ} {r : Listed} → Answered mostText (listing (map rowOf ss)) d e r → (n : ℕ) → r ≡ Count n → n ≤ mostText
-counted ss d {e} {r} a n b = omega (arith, count-is (listing (map rowOf ss)) d r (a .answer) n b, a .enough)
+list-enough : (f d : List ℕ) {e : List ℕ} {r : Listed} (ss : List Site) → contents f ≡ good ss → Answered (listing (map rowOf ss)) d e r → ListRoomEnough f d r
+list-enough f d ss h a ts g = let same : ss ≡ ts = cc in rw (← same) (a .enough)
 
-pub listed-sites : (f d : List ℕ) {e : List ℕ} {r : Listed} (ss : List Site) → contents f ≡ good ss → Answered mostText (listing (map rowOf ss)) d e r → ListClauses f d e r
+pub listed-sites : (f d : List ℕ) {e : List ℕ} {r : Listed} (ss : List Site) → contents f ≡ good ss → Answered (listing (map rowOf ss)) d e r → ListClauses f d e r
 unfolding listAnswer listHeld listNumbers
-listed-sites f d ss h a = (rw h (a .answer), (rw h (a .buffer), (rw h (a .numbers), (counted ss d a, written3 f d ss h a))))
+listed-sites f d ss h a = (rw h (a .answer), (rw h (a .buffer), (rw h (a .numbers), (list-enough f d ss h a, written3 f d ss h a))))
 
 pub listed-fault : (f d : List ℕ) {rule : Rule} {at : ℕ} → contents f ≡ fault rule at → ListClauses f d d (Refused rule at)
 unfolding listAnswer listHeld listNumbers listedNumbers
-listed-fault f d h = (rw h, (rw h, (rw h, (λ n b. let z : _≡_ {A = ℕ} 0 1 = cc in absurd (omega arith), λ n b. let z : _≡_ {A = ℕ} 0 1 = cc in absurd (omega arith)))))
+listed-fault f d h = (rw h, (rw h, (rw h, (λ ss g. not-good (sym h ∙ g), λ n b. let z : _≡_ {A = ℕ} 0 1 = cc in absurd (omega arith)))))
+
+-- no listing is longer than the longest
+pub list-count : (f d : List ℕ) {n : ℕ} → listAnswer (contents f) d ≡ Count n → ListRoomEnough f d (Count n) → n ≤ mostText
+unfolding listAnswer
+list-count f d {n} is most = by-contents (contents f) refl is
+  where
+    by-contents : (c : Contents Site) → contents f ≡ c → listAnswer c d ≡ Count n → n ≤ mostText
+    by-contents (good ss) q e = omega (arith, count-is (listing (map rowOf ss)) d _ refl n e, most ss q .bounded)
+    by-contents (fault k i) q e = let z : _≡_ {A = ℕ} 0 1 = cc in absurd (omega arith)
 
 -- no refusal lies past 500 records of the greatest length
 pub list-fault-near : (f d : List ℕ) {rule : Rule} {at : ℕ} → listAnswer (contents f) d ≡ Refused rule at → at ≤ mostRecord * mostRecords
@@ -95,15 +103,15 @@ list-fault-near f d {rule} {at} e = by-contents (contents f) refl e
 
 -- the clauses of the call that reports
 abbrev pub Reported : List ℕ → List ℕ → List ℕ → Listed → Type 0
-Reported f d e r = Clauses mostText (reportOf f) d e r ((length (reportOf f) ≤ mostText) × WrittenDemand3 f e r)
+Reported f d e r = Clauses (reportOf f) d e r (RoomEnough (reportOf f) d r × WrittenDemand3 f e r)
 
-reported : (f d : List ℕ) {e : List ℕ} {r : Listed} → Answered mostText (reportOf f) d e r → WrittenDemand3 f e r → Reported f d e r
+reported : (f d : List ℕ) {e : List ℕ} {r : Listed} → Answered (reportOf f) d e r → WrittenDemand3 f e r → Reported f d e r
 reported f d a w = clauses-then a w
 
-pub reported-sites : (f d : List ℕ) {e : List ℕ} {r : Listed} (ss : List Site) → contents f ≡ good ss → Answered mostText (listing (map rowOf ss)) d e r → Reported f d e r
+pub reported-sites : (f d : List ℕ) {e : List ℕ} {r : Listed} (ss : List Site) → contents f ≡ good ss → Answered (listing (map rowOf ss)) d e r → Reported f d e r
 unfolding reportOf printed
 reported-sites f d ss h a = reported f d (rw h a) (written3 f d ss h a)
 
-pub reported-fault : (f d : List ℕ) {e : List ℕ} {r : Listed} {rule : Rule} {at : ℕ} → contents f ≡ fault rule at → Clauses mostText (refusal rule at) d e r (length (refusal rule at) ≤ mostText) → Reported f d e r
+pub reported-fault : (f d : List ℕ) {e : List ℕ} {r : Listed} {rule : Rule} {at : ℕ} → contents f ≡ fault rule at → Clauses (refusal rule at) d e r (RoomEnough (refusal rule at) d r) → Reported f d e r
 unfolding reportOf printed
 reported-fault f d h a = reported f d (rw h (by-clauses a)) (λ n b ss g. not-good (sym h ∙ g))

@@ -3,7 +3,7 @@ use Prim.Native.Nat.{ℕ, suc, _+_, _-_, _≤_, _<_}
 use mathlib.Core.Path.{_≡_, refl, sym, ap, _∙_}
 use mathlib.Core.List.{List, [], _∷_, _++_, map, append-nil}
 use native.Mathlib.Omega.{arith}
-use lib.ListN.{length, set, replicate, length-append}
+use lib.ListN.{length, set, replicate, length-append, length-map}
 use lib.Seq.{append-snoc, set-append-seam}
 use Rattle.site.specs.Ranges.{mostRecords}
 use Rattle.site.specs.declared.Site.{Site}
@@ -17,11 +17,12 @@ use Rattle.record.proofs.FileLaws.{walk-end, walk-full, walk-step}
 use Rattle.record.proofs.Place.{record-good, record-fault, site-after, site-inside}
 use Rattle.record.proofs.SiteFile.{sites-some}
 use Rattle.text.specs.declared.Row.{Row}
+use Rattle.text.specs.Line.{blankRow}
 use Rattle.listing.specs.declared.Walked.{Walked}
-use Rattle.listing.specs.declared.Turn.{Turn}
-use Rattle.listing.specs.Rows.{rowOf, blankRow, padded, turnOf, walkedOf}
-use Rattle.listing.proofs.TurnLaws.{turn-outcome, turn-next, turn-row}
-use Rattle.listing.proofs.MapLaws.{length-map, map-append}
+use Rattle.listing.specs.declared.Step.{Step}
+use Rattle.listing.specs.Rows.{rowOf, padded, stepOf, walkedOf}
+use Rattle.listing.proofs.StepLaws.{step-outcome, step-next, step-row}
+use Rattle.listing.proofs.MapLaws.{map-append}
 
 -- sites in front of what the rest holds
 abbrev before : List Site → Contents Site → Contents Site
@@ -37,14 +38,15 @@ unfolding first
 before-first ss s (good ts) = ap good (sym (append-snoc ss s ts))
 before-first ss s (fault rule at) = refl
 
-pub record So (f : List ℕ) (rows : List Row) (count at : ℕ) : Type 0 where
+-- the loop's invariant: the sites so far, their rows, and what the walk over the rest gives
+pub record SoFar (f : List ℕ) (rows : List Row) (count at : ℕ) : Type 0 where
   pub ss : List Site
   pub counted : count ≡ length ss
   pub few : count ≤ mostRecords
   pub filled : rows ≡ padded (map rowOf ss)
   pub rest : contents f ≡ before ss (walkFile (siteAt f) (length f) (mostRecords - count) at)
 
-pub so-start : (f : List ℕ) → 0 < length f → So f (padded []) 0 0
+pub so-start : (f : List ℕ) → 0 < length f → SoFar f (padded []) 0 0
 so-start f h = record {
   ss = [];
   counted = refl;
@@ -60,7 +62,7 @@ padded-set rs r h =
     let n : mostRecords - length rs ≡ suc (mostRecords - length (rs ++ (r ∷ []))) = simp length-append (omega arith) in
     rw n (set-append-seam rs blankRow (replicate (mostRecords - length (rs ++ (r ∷ []))) blankRow) r ∙ sym (append-snoc rs r _))
 
-module _ {f : List ℕ} {rows : List Row} {count at : ℕ} (so : So f rows count at) where
+module _ {f : List ℕ} {rows : List Row} {count at : ℕ} (so : SoFar f rows count at) where
   pub so-end : length f ≤ at → record { outcome = Accepted; rows = rows; count = count } ≡ walkedOf (contents f)
   unfolding walkedOf
   so-end h = rw (so .rest, walk-end (siteAt f) (length f) (mostRecords - count) at h, append-nil, so .filled, so .counted)
@@ -76,15 +78,15 @@ module _ {f : List ℕ} {rows : List Row} {count at : ℕ} (so : So f rows count
         let z : mostRecords - count ≡ suc (mostRecords - (count + 1)) = omega arith in
         so .rest ∙ rw (z, walk-step (siteAt f) (length f) (mostRecords - (count + 1)) at h)
 
-    pub so-bad : {rule : Rule} {p : ℕ} → recordAt f at .outcome ≡ Refused rule p → contents f ≡ fault rule p
+    so-bad : {rule : Rule} {p : ℕ} → recordAt f at .outcome ≡ Refused rule p → contents f ≡ fault rule p
     unfolding onto
     so-bad e = so-step ∙ rw (record-fault f at e)
 
-    pub so-good : recordAt f at .outcome ≡ Accepted → So f (set rows count (rowOf (recordAt f at .site))) (count + 1) (recordAt f at .next)
+    so-good : recordAt f at .outcome ≡ Accepted → SoFar f (set rows count (rowOf (recordAt f at .site))) (count + 1) (recordAt f at .next)
     unfolding onto
     so-good e =
         let s = recordAt f at .site in
-        let n : count ≡ length (map rowOf (so .ss)) = so .counted ∙ sym (length-map rowOf (so .ss)) in
+        let n : count ≡ length (map rowOf (so .ss)) = so .counted ∙ sym (length-map (so .ss) rowOf) in
         record {
           ss = so .ss ++ (s ∷ []);
           counted = simp length-append (omega (arith, so .counted));
@@ -93,29 +95,35 @@ module _ {f : List ℕ} {rows : List Row} {count at : ℕ} (so : So f rows count
           rest = so-step ∙ rw (record-good f at e, before-first);
         }
 
-    -- the same by what a turn gives
-    module _ {t : Turn} (is : t ≡ turnOf (recordAt f at)) where
-      pub turn-bad : {rule : Rule} {p : ℕ} → t .outcome ≡ Refused rule p → contents f ≡ fault rule p
-      turn-bad e = so-bad (turn-outcome (recordAt f at) is ∙ e)
+-- a step that the loop takes
+pub record Taken (f : List ℕ) (rows : List Row) (count at : ℕ) (t : Step) : Type 0 where
+  pub so : SoFar f rows count at
+  pub inside : at < length f
+  pub fewer : count < mostRecords
+  pub is : t ≡ stepOf (recordAt f at)
 
-      pub turn-good : t .outcome ≡ Accepted → So f (set rows count (t .row)) (count + 1) (t .next)
-      turn-good e =
-          let a = turn-outcome (recordAt f at) is ∙ e in
-          rw (← turn-row (recordAt f at) is a, ← turn-next (recordAt f at) is) (so-good a)
+module _ {f : List ℕ} {rows : List Row} {count at : ℕ} {t : Step} (x : Taken f rows count at t) where
+  pub step-bad : {rule : Rule} {p : ℕ} → t .outcome ≡ Refused rule p → contents f ≡ fault rule p
+  step-bad e = so-bad (x .so) (x .inside) (x .fewer) (step-outcome (recordAt f at) (x .is) ∙ e)
 
-      pub turn-on : t .outcome ≡ Accepted → (at < t .next) × (t .next ≤ length f)
-      turn-on e =
-          let a = turn-outcome (recordAt f at) is ∙ e in
-          rw (← turn-next (recordAt f at) is) (omega (arith, site-after f at (record-good f at a)), site-inside f at (record-good f at a))
+  pub step-good : t .outcome ≡ Accepted → SoFar f (set rows count (t .row)) (count + 1) (t .next)
+  step-good e =
+      let a = step-outcome (recordAt f at) (x .is) ∙ e in
+      rw (← step-row (recordAt f at) (x .is) a, ← step-next (recordAt f at) (x .is)) (so-good (x .so) (x .inside) (x .fewer) a)
+
+  pub step-on : t .outcome ≡ Accepted → (at < t .next) × (t .next ≤ length f)
+  step-on e =
+      let a = step-outcome (recordAt f at) (x .is) ∙ e in
+      rw (← step-next (recordAt f at) (x .is)) (omega (arith, site-after f at (record-good f at a)), site-inside f at (record-good f at a))
 
 -- an answer, and its numbers
-pub numbers-of : (c : Contents Site) → outcomeNumbers (walkedOf c .outcome) ≡ resultNumbers c
+pub walked-numbers : (c : Contents Site) → outcomeNumbers (walkedOf c .outcome) ≡ resultNumbers c
 unfolding walkedOf outcomeNumbers resultNumbers
-numbers-of (good ss) = refl
-numbers-of (fault rule at) = refl
+walked-numbers (good ss) = refl
+walked-numbers (fault rule at) = refl
 
 pub with-numbers : {w : Walked} (c : Contents Site) → w ≡ walkedOf c → (w ≡ walkedOf c) × (outcomeNumbers (w .outcome) ≡ resultNumbers c)
-with-numbers c e = (e, rw e (numbers-of c))
+with-numbers c e = (e, rw e (walked-numbers c))
 
 pub with-fault : {w : Walked} {c : Contents Site} {rule : Rule} {at : ℕ} → c ≡ fault rule at → w ≡ walkedOf (fault rule at)
     → (w ≡ walkedOf c) × (outcomeNumbers (w .outcome) ≡ resultNumbers c)

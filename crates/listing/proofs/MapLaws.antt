@@ -6,14 +6,11 @@ use native.Mathlib.Omega.{arith}
 use lib.ListN.{length, getD}
 
 module _ {A B : Type 0} (f : A → B) where
-  pub length-map : (xs : List A) → length (map f xs) ≡ length xs
-  length-map [] = refl
-  length-map (x ∷ xs) = ap suc (length-map xs)
-
   pub map-append : (xs ys : List A) → map f (xs ++ ys) ≡ map f xs ++ map f ys
   map-append [] ys = refl
   map-append (x ∷ xs) ys = ap (λ (l : List B). f x ∷ l) (map-append xs ys)
 
+  -- within the list, whatever stands past it
   pub getD-map : (xs : List A) (k : ℕ) (d : A) (e : B) → k < length xs → getD (map f xs) k e ≡ f (getD xs k d)
   getD-map [] k d e h = absurd (omega arith)
   getD-map (x ∷ xs) zero d e h = refl

@@ -13,7 +13,7 @@ use Rattle.listing.specs.Reports.{printed, reportOf}
 use Rattle.listing.specs.PrintedDemand3.{Demand3, PrintedNeverWorse}
 use Rattle.listing.proofs.Demand3Laws.{listing-says}
 
--- DEMAND 3 in what is printed
+-- demand 3 in what is printed
 pub report-says : (f : List ℕ) → Demand3 f (reportOf f)
 unfolding reportOf printed
 report-says f ss e = rw e (listing-says f ss e)

@@ -22,7 +22,7 @@ pub record LinesSay (ss : List Site) (t : List ℕ) : Type 0 where
   pub nothing-behind : lineAt (length ss + 1) t ≡ []
   pub says : (k : ℕ) → k < length ss → Says (lastWord (lineAt (suc k) t)) (getD ss k blankSite)
 
--- demand 3 in a text t for the file f: where the checks let f pass, every site's line says so
+-- demand 3 in a text t for the file f: where the checks let f pass, every site's line says whether its balances close
 abbrev pub Demand3 : List ℕ → List ℕ → Type 0
 Demand3 f t = (ss : List Site) → contents f ≡ good ss → LinesSay ss t
 

@@ -1,5 +1,6 @@
 -- What is listed and what is printed for a file.
 use Prim.Native.Nat.{ℕ}
+use mathlib.Core.Path.{_≡_}
 use mathlib.Core.List.{List, map}
 use Rattle.site.specs.Refusal.{ruleNumber}
 use Rattle.text.specs.declared.Listed.{Listed}
@@ -7,7 +8,7 @@ use Rattle.text.specs.declared.Listed.the-variants.{Refused}
 use Rattle.text.specs.Listing.{listing}
 use Rattle.text.specs.RefusalLine.{refusal}
 use Rattle.output.specs.Output.{held, heldNumbers}
-use Rattle.text.specs.TextAnswer.{textAnswer}
+use Rattle.text.specs.TextAnswer.{textAnswer, RoomEnough}
 use Rattle.site.specs.declared.Site.{Site}
 use Rattle.record.specs.Result.{good, fault}
 use Rattle.record.specs.File.{Contents, contents}
@@ -25,6 +26,10 @@ listNumbers (fault rule at) d = (ruleNumber rule, at)
 unfoldable pub listHeld : Contents Site → List ℕ → List ℕ
 listHeld (good ss) d = held (listing (map rowOf ss)) d
 listHeld (fault rule at) d = d
+
+-- where the checks let f pass, a buffer of mostText bytes is enough for its listing
+abbrev pub ListRoomEnough : List ℕ → List ℕ → Listed → Type 0
+ListRoomEnough f d r = (ss : List Site) → contents f ≡ good ss → RoomEnough (listing (map rowOf ss)) d r
 
 -- what the program prints: the listing, or the line of the refusal
 unfoldable pub printed : Contents Site → List ℕ

@@ -4,15 +4,15 @@ use mathlib.Core.List.{List, [], _++_, map}
 use lib.ListN.{length, replicate}
 use Rattle.site.specs.Ranges.{mostRecords}
 use Rattle.site.specs.declared.Site.{Site}
-use Rattle.judgement.specs.declared.Verdict.the-variants.{Within}
 use Rattle.judgement.specs.declared.Judged.{Judged}
 use Rattle.judgement.specs.Answers.{judgedOf}
 use Rattle.record.specs.declared.Outcome.{Outcome}
 use Rattle.record.specs.declared.Outcome.the-variants.{Accepted, Refused}
 use Rattle.record.specs.declared.Found.{Found}
 use Rattle.text.specs.declared.Row.{Row}
+use Rattle.text.specs.Line.{blankRow}
 use Rattle.listing.specs.declared.Walked.{Walked}
-use Rattle.listing.specs.declared.Turn.{Turn}
+use Rattle.listing.specs.declared.Step.{Step}
 use Rattle.record.specs.Result.{good, fault}
 use Rattle.record.specs.File.{Contents}
 
@@ -23,23 +23,13 @@ rowBy s j = record { name = s .name; «name_len» = s .«name_len»; loads = j .
 unfoldable pub rowOf : Site → Row
 rowOf s = rowBy s (judgedOf s)
 
--- what stands in the array past the rows
-unfoldable pub blankRow : Row
-blankRow =
-    record {
-      name = replicate 8 0;
-      «name_len» = 0;
-      loads = record { «max_s» = 0; «min_n» = 0; «max_n» = 0; «nut_n» = 0 };
-      verdict = Within;
-    }
+-- a step of the walk: what stands at an offset of a file, as a row
+unfoldable pub stepBy : Outcome → Site → ℕ → Step
+stepBy Accepted s next = record { outcome = Accepted; row = rowOf s; next = next }
+stepBy (Refused rule at) s next = record { outcome = Refused rule at; row = blankRow; next = next }
 
--- what stands at an offset of a file, as a row
-unfoldable pub turnBy : Outcome → Site → ℕ → Turn
-turnBy Accepted s next = record { outcome = Accepted; row = rowOf s; next = next }
-turnBy (Refused rule at) s next = record { outcome = Refused rule at; row = blankRow; next = next }
-
-unfoldable pub turnOf : Found → Turn
-turnOf x = turnBy (x .outcome) (x .site) (x .next)
+unfoldable pub stepOf : Found → Step
+stepOf x = stepBy (x .outcome) (x .site) (x .next)
 
 -- 500 rows, of which the first are rs
 unfoldable pub padded : List Row → List Row

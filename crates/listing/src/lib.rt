@@ -1,11 +1,11 @@
 // The listing of a file of records.
 mod listing;
-mod printing;
+mod reporting;
 mod walking;
 
 pub use listing::list;
-pub use printing::report;
 use record::Outcome;
+pub use reporting::report;
 use text::Row;
 pub use walking::walk_file;
 
@@ -16,8 +16,8 @@ pub struct Walked {
     pub count: usize,
 }
 
-// What stands at an offset of a file: the row of a record, or its fault and a blank row; and the offset after it.
-struct Turn {
+// A step of the walk, at an offset of a file: the row of the record there, or its fault and a blank row; and the offset after it.
+struct Step {
     outcome: Outcome,
     row: Row,
     next: usize,

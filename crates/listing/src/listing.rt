@@ -1,10 +1,8 @@
 // The listing of a file into a lent buffer.
 ghost use mathlib.Core.Path.{_≡_};
-ghost use Prim.Native.Nat.{ℕ, _≤_};
-ghost use Rattle.text.specs.TextLengths.{mostText};
 ghost use Rattle.text.specs.TextAnswer.{listedNumbers};
 ghost use Rattle.record.specs.File.{contents};
-ghost use Rattle.listing.specs.Reports.{listAnswer, listNumbers, listHeld};
+ghost use Rattle.listing.specs.Reports.{listAnswer, listNumbers, listHeld, ListRoomEnough};
 ghost use Rattle.listing.specs.PrintedDemand3.{WrittenDemand3};
 use crate::walking::walk_file;
 use record::Outcome;
@@ -16,7 +14,7 @@ pub fn list(file: &[u8], out: &mut [u8]) -> Listed
     ensures answer { λ r. ⌜ r ≡ listAnswer (contents (now (file .entry))) (now (out .entry)) ⌝ }
     ensures buffer { λ _. ⌜ now (out .exit) ≡ listHeld (contents (now (file .entry))) (now (out .entry)) ⌝ }
     ensures numbers { λ r. ⌜ listedNumbers r ≡ listNumbers (contents (now (file .entry))) (now (out .entry)) ⌝ }
-    ensures enough { λ r. ⌜ ((n : ℕ) → r ≡ Listed.Count n → n ≤ mostText) ⌝ }
+    ensures enough { λ r. ⌜ ListRoomEnough (now (file .entry)) (now (out .entry)) r ⌝ }
     ensures demand3 { λ r. ⌜ WrittenDemand3 (now (file .entry)) (now (out .exit)) r ⌝ }
 {
     let w = walk_file(file);

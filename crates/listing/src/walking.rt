@@ -3,8 +3,9 @@ ghost use mathlib.Core.Path.{_≡_};
 ghost use Rattle.record.specs.Outer.{recordAt, outcomeNumbers};
 ghost use Rattle.record.specs.File.{contents};
 ghost use Rattle.record.specs.Result.{fault, resultNumbers};
-ghost use Rattle.listing.specs.Rows.{blankRow, rowBy, turnOf, walkedOf};
-use crate::Turn;
+ghost use Rattle.text.specs.Line.{blankRow};
+ghost use Rattle.listing.specs.Rows.{rowBy, stepOf, walkedOf};
+use crate::Step;
 use crate::Walked;
 use judgement::Judged;
 use judgement::JudgementAnswer;
@@ -49,8 +50,8 @@ fn row_by(site: Site, judged: Judged) -> Row
     }
 }
 
-fn turn(file: &[u8], at: usize) -> Turn
-    ensures { λ r. ⌜ r ≡ turnOf (recordAt (now (file .entry)) at) ⌝ }
+fn step(file: &[u8], at: usize) -> Step
+    ensures { λ r. ⌜ r ≡ stepOf (recordAt (now (file .entry)) at) ⌝ }
 {
     let found = read_at(file, at);
     let next = found.next;
@@ -60,7 +61,7 @@ fn turn(file: &[u8], at: usize) -> Turn
         Outcome::Refused { rule, at: p } => {
             let outcome = Outcome::Refused { rule, at: p };
             let row = blank_row();
-            Turn { outcome, row, next }
+            Step { outcome, row, next }
         }
         Outcome::Accepted => {
             let j = judge(site);
@@ -69,12 +70,12 @@ fn turn(file: &[u8], at: usize) -> Turn
                 JudgementAnswer::Refused(rule) => {
                     let outcome = Outcome::Refused { rule, at };
                     let row = blank_row();
-                    Turn { outcome, row, next }
+                    Step { outcome, row, next }
                 }
                 JudgementAnswer::Given(judged) => {
                     let outcome = Outcome::Accepted;
                     let row = row_by(site, judged);
-                    Turn { outcome, row, next }
+                    Step { outcome, row, next }
                 }
             }
         }
@@ -112,7 +113,7 @@ pub fn walk_file(file: &[u8]) -> Walked
             let rule = Rule::TooMany;
             return refused_rows(rule, at);
         }
-        let t = turn(file, at);
+        let t = step(file, at);
         let o = t.outcome;
         match o {
             Outcome::Refused { rule, at: p } => {

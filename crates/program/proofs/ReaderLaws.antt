@@ -18,9 +18,9 @@ use Rattle.program.specs.Reads.{afterRead, onward, afterReads, ReadAll}
 
 -- ---- a signed number that is not below 0
 
-pub positive : (z : ℤ) → ltZ z (pos 0) ≡ false → T (nonNeg z)
-positive (pos k) h = tt
-positive (negsuc k) h = absurd (true≢false h)
+pub not-negative : (z : ℤ) → ltZ z (pos 0) ≡ false → T (nonNeg z)
+not-negative (pos k) h = tt
+not-negative (negsuc k) h = absurd (true≢false h)
 
 pub fits : (z : ℤ) → SFits w64 z → Fits w64 (natAbs z)
 fits z f = record { fits = omega (arith, natAbs-le z (f .sfits)) }
@@ -40,7 +40,7 @@ module _ (size done : ℕ) where
   below (pos k) h = absurd (omega (arith, ltb-true k 0 h))
   below (negsuc k) h = refl
 
-  -- z is the number that the machine reads back of g
+  -- a read gave g, and z is the same number, read from a word of 64 bits
   module _ (g z : ℤ) (same : z ≡ g) where
     pub failed : ltZ z (pos 0) ≡ true → Failed ≡ afterRead size done g
     failed h = rw (← same) (below z h)
@@ -85,12 +85,12 @@ pub reached-next : {r : ReadState} (size done : ℕ) (g : ℤ) → Reached size 
 unfolding onward
 reached-next size done g x e = record { numbers = x .numbers ++ (g ∷ []); reached = e ∙ rw (one-more size (More 0) (x .numbers) g, ← x .reached) }
 
--- what the next step says of the bytes
-number-of : (size done : ℕ) (g : ℤ) (P : ReadState → Type 0)
+-- by the cases of `afterRead`
+by-read : (size done : ℕ) (g : ℤ) (P : ReadState → Type 0)
     → P Failed → P (Ended done) → ((k : ℕ) → 0 < k → done + k < size → P (More (done + k))) → P (Ended size) → P (afterRead size done g)
 unfolding afterRead
-number-of size done (negsuc k) P f e m l = f
-number-of size done (pos k) P f e m l = zero? (eqb k 0) refl
+by-read size done (negsuc k) P f e m l = f
+by-read size done (pos k) P f e m l = zero? (eqb k 0) refl
   where
     last? : (t : Bool) → P (pick t (Ended size) Failed)
     last? true = l
@@ -107,7 +107,7 @@ number-of size done (pos k) P f e m l = zero? (eqb k 0) refl
 
 pub more-is-later : (size done n : ℕ) (g : ℤ) → afterRead size done g ≡ More n → (done < n) × (n < size)
 more-is-later size done n g =
-    number-of size done g (λ r. r ≡ More n → (done < n) × (n < size))
+    by-read size done g (λ r. r ≡ More n → (done < n) × (n < size))
     (λ e. let z : _≡_ {A = ℕ} 0 1 = cc in absurd (omega arith))
     (λ e. let z : _≡_ {A = ℕ} 0 1 = cc in absurd (omega arith))
     (λ k h l e. let q : done + k ≡ n = cc in (omega arith, omega arith))

@@ -22,7 +22,7 @@ Shown text d e k =
     ((k ≤ length e) × (k ≡ length (take k e)))
     × ((k ≡ shownLength text d) × ((e ≡ held text d) × (mostText ≤ length d → take k e ≡ text)))
 
-pub shown-some : (text d : List ℕ) {e : List ℕ} {r : Listed} (k : ℕ) → r ≡ Count k → Answered mostText text d e r → Shown text d e k
+pub shown-some : (text d : List ℕ) {e : List ℕ} {r : Listed} (k : ℕ) → r ≡ Count k → Answered text d e r → Shown text d e k
 unfolding answerIf heldAfter outputCount
 shown-some text d {e} {r} k b a = go (roomRule (length text) (length d)) refl
   where
@@ -40,7 +40,7 @@ shown-some text d {e} {r} k b a = go (roomRule (length text) (length d)) refl
         let z : _≡_ {A = ℕ} 0 1 = cc in
         absurd (omega arith)
 
-pub shown-none : (text d : List ℕ) {e : List ℕ} {r : Listed} {rule : Rule} {at : ℕ} → r ≡ Refused rule at → Answered mostText text d e r → Shown text d e 0
+pub shown-none : (text d : List ℕ) {e : List ℕ} {r : Listed} {rule : Rule} {at : ℕ} → r ≡ Refused rule at → Answered text d e r → Shown text d e 0
 unfolding answerIf heldAfter outputCount
 shown-none text d {e} {r} b a = go (roomRule (length text) (length d)) refl
   where
@@ -49,4 +49,4 @@ shown-none text d {e} {r} b a = go (roomRule (length text) (length d)) refl
 
     go : (t : Checked) → roomRule (length text) (length d) ≡ t → Shown text d e 0
     go Passed t = clash (rw t at (a .answer))
-    go (Broken x) t = ((omega arith, refl), (rw t, (a .buffer, λ m. absurd (omega (arith, room-missing (length text) (length d) t, a .enough)))))
+    go (Broken x) t = ((omega arith, refl), (rw t, (a .buffer, λ m. absurd (omega (arith, room-missing (length text) (length d) t, a .enough .bounded)))))

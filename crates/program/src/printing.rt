@@ -35,7 +35,7 @@ fn shown(file: &[u8], out: &mut [u8]) -> usize
 
 // The report of what was read, where the reading has ended, and nothing otherwise; gives how many bytes to print. The file's buffer
 // has room for 500 records of the greatest length and a byte more, the output's for every listing. `inside` and `failed` follow from
-// `answer` and `buffer`, and stand for those who call and read.
+// `answer` and `buffer`, and are there for callers and readers.
 pub fn to_print(file: &[u8; 129001], reading: ReadState, out: &mut [u8; 81551]) -> usize
     ensures inside { λ r. ⌜ (r ≤ length (now (out .exit))) × (r ≡ length (take r (now (out .exit)))) ⌝ }
     ensures answer { λ r. ⌜ r ≡ length (outputOf reading (now (file .entry))) ⌝ }

@@ -21,7 +21,7 @@ pub dec-step : (f n : ℕ) → 10 ≤ n → dec (suc f) n ≡ dec f (n / 10) ++ 
 unfolding dec
 dec-step f n h = rw (le-ltb n 10 h, dec)
 
--- enough steps are enough
+-- the bound on the steps does not matter once it is n or more
 dec-fuel : (f g n : ℕ) → n ≤ f → n ≤ g → dec f n ≡ dec g n
 dec-fuel zero g n hf hg = dec-small zero n (omega arith) ∙ sym (dec-small g n (omega arith))
 dec-fuel (suc f) zero n hf hg = dec-small (suc f) n (omega arith) ∙ sym (dec-small zero n (omega arith))
@@ -85,9 +85,9 @@ length-above (suc k) n h =
     let p : 1 ≤ 10 ^ k = one-le-power k in
     omega (arith, length-above k (n / 10) (omega arith), length-step n (omega arith))
 
--- a word of 64 bits has at most 20
-pub length-word : (n : ℕ) → n < 2 ^ 64 → length (decimal n) ≤ 20
-length-word n h = length-below 20 n (omega arith) (omega arith)
+-- a number of 64 bits has at most 20
+pub length-u64 : (n : ℕ) → n < 2 ^ 64 → length (decimal n) ≤ 20
+length-u64 n h = length-below 20 n (omega arith) (omega arith)
 
 power-more : (d k : ℕ) → 10 ^ k ≤ 10 ^ (d + k)
 power-more zero k = rw zero-add (omega arith)

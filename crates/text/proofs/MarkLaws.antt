@@ -1,5 +1,5 @@
 -- The lines of a listing, and the last word of each.
-use Prim.Native.Nat.{ℕ, zero, suc, _+_, _≤_, _<_}
+use Prim.Native.Nat.{ℕ, zero, suc, _+_, _<_}
 use mathlib.Core.Path.{_≡_, refl, ap, _∙_}
 use mathlib.Core.Bool.{true}
 use mathlib.Core.List.{List, [], _∷_, _++_, append-assoc, map}
@@ -10,11 +10,11 @@ use Rattle.judgement.specs.declared.Verdict.{Verdict}
 use Rattle.judgement.specs.declared.Verdict.the-variants.{Within, Over}
 use Rattle.text.specs.declared.Row.{Row}
 use Rattle.text.specs.declared.Listed.{Listed}
-use Rattle.text.specs.TextLengths.{mostText}
+use Rattle.text.specs.TextAnswer.{RoomEnough}
 use Rattle.text.specs.Decimal.{decimal}
 use Rattle.output.specs.Writing.{each}
 use Rattle.judgement.specs.Verdicts.{verdictWord}
-use Rattle.text.specs.Line.{noRow, numbersOf, nameText, spaced, column, body, line}
+use Rattle.text.specs.Line.{blankRow, numbersOf, nameText, spaced, column, body, line}
 use Rattle.text.specs.Listing.{headText, header, listing}
 use Rattle.text.specs.Words.{split, lastWord, lineAt, free}
 use Rattle.text.specs.Marks.{Plain, Marked}
@@ -62,7 +62,7 @@ split-head = split-free 10 headText refl
 pub listing-lines : (rs : List Row) → Plain rs → split 10 (listing rs) ≡ headText ∷ (map body rs ++ ([] ∷ []))
 listing-lines rs h = ap (split 10) (listing-head rs) ∙ split-at 10 headText (each line rs) ∙ rw (split-head, split-lines rs h)
 
-getD-body : (rs : List Row) (k : ℕ) → k < length rs → getD (map body rs ++ ([] ∷ [])) k [] ≡ body (getD rs k noRow)
+getD-body : (rs : List Row) (k : ℕ) → k < length rs → getD (map body rs ++ ([] ∷ [])) k [] ≡ body (getD rs k blankRow)
 getD-body [] k h = absurd (omega arith)
 getD-body (r ∷ rs) zero h = refl
 getD-body (r ∷ rs) (suc k) h = getD-body rs k (omega arith)
@@ -88,7 +88,7 @@ line-behind rs h = ap (λ (t : List (List ℕ)). getD t (length rs + 1) []) (lis
     past-body (r ∷ rs) = past-body rs
 
 -- line k + 1 is that of row k
-pub line-of : (rs : List Row) (k : ℕ) → Plain rs → k < length rs → lineAt (suc k) (listing rs) ≡ body (getD rs k noRow)
+pub line-of : (rs : List Row) (k : ℕ) → Plain rs → k < length rs → lineAt (suc k) (listing rs) ≡ body (getD rs k blankRow)
 unfolding lineAt
 line-of rs k h l = ap (λ (t : List (List ℕ)). getD t (suc k) []) (listing-lines rs h) ∙ getD-body rs k l
 
@@ -97,14 +97,14 @@ unfolding body
 body-mark r = lastWord-spaced (nameText r ++ each column (numbersOf r)) (verdictWord (r .verdict)) (free-mark (r .verdict) .1)
 
 -- the mark of line k + 1 is that of row k
-pub mark-of : (rs : List Row) (k : ℕ) → Plain rs → k < length rs → lastWord (lineAt (suc k) (listing rs)) ≡ verdictWord (getD rs k noRow .verdict)
-mark-of rs k h l = ap lastWord (line-of rs k h l) ∙ body-mark (getD rs k noRow)
+pub mark-of : (rs : List Row) (k : ℕ) → Plain rs → k < length rs → lastWord (lineAt (suc k) (listing rs)) ≡ verdictWord (getD rs k blankRow .verdict)
+mark-of rs k h l = ap lastWord (line-of rs k h l) ∙ body-mark (getD rs k blankRow)
 
 -- the same of what a call has written
-pub marked : (rs : List Row) (d e : List ℕ) (r : Listed) → Answered mostText (listing rs) d e r → Marked rs e r
+pub marked : (rs : List Row) (d e : List ℕ) (r : Listed) → Answered (listing rs) d e r → Marked rs e r
 marked rs d e r a n k b p l = rw (written (listing rs) d e r (a .answer) (a .buffer) n b) (mark-of rs k p l)
 
 -- the clauses of a call that lists
-pub and-marked : (rs : List Row) (d : List ℕ) {e : List ℕ} {r : Listed} → Answered mostText (listing rs) d e r
-    → Clauses mostText (listing rs) d e r ((length (listing rs) ≤ mostText) × Marked rs e r)
+pub and-marked : (rs : List Row) (d : List ℕ) {e : List ℕ} {r : Listed} → Answered (listing rs) d e r
+    → Clauses (listing rs) d e r (RoomEnough (listing rs) d r × Marked rs e r)
 and-marked rs d {e} {r} a = clauses-then a (marked rs d e r a)

@@ -16,48 +16,49 @@ use Rattle.output.proofs.WritingLaws.{in-front}
 use Rattle.output.proofs.OutputLaws.{room-enough, room-short}
 use Rattle.text.specs.declared.Listed.{Listed}
 use Rattle.text.specs.declared.Listed.the-variants.{Count, Refused}
-use Rattle.text.specs.TextAnswer.{listedNumbers, textAnswer}
+use Rattle.text.specs.TextAnswer.{listedNumbers, textAnswer, RoomEnough}
+use Rattle.text.specs.TextLengths.{mostText}
 
--- what a call promises that writes text into d, a text of at most `most` bytes
-pub record Answered (most : ℕ) (text d e : List ℕ) (r : Listed) : Type 0 where
+-- the promises of a call that writes text into a lent buffer, which held d and then holds e
+pub record Answered (text d e : List ℕ) (r : Listed) : Type 0 where
   pub answer : r ≡ textAnswer text d
   pub buffer : e ≡ held text d
   pub numbers : listedNumbers r ≡ heldNumbers text d
-  pub enough : length text ≤ most
+  pub enough : RoomEnough text d r
 
 -- the same as clauses of its contract, the last with what follows them
-abbrev pub Clauses : (most : ℕ) (text d e : List ℕ) → Listed → Type 0 → Type 0
-Clauses most text d e r Last = (r ≡ textAnswer text d) × ((e ≡ held text d) × ((listedNumbers r ≡ heldNumbers text d) × Last))
+abbrev pub Clauses : (text d e : List ℕ) → Listed → Type 0 → Type 0
+Clauses text d e r Last = (r ≡ textAnswer text d) × ((e ≡ held text d) × ((listedNumbers r ≡ heldNumbers text d) × Last))
 
-module _ {most : ℕ} {text d e : List ℕ} {r : Listed} where
-  pub as-clauses : Answered most text d e r → Clauses most text d e r (length text ≤ most)
+module _ {text d e : List ℕ} {r : Listed} where
+  pub as-clauses : Answered text d e r → Clauses text d e r (RoomEnough text d r)
   as-clauses a = (a .answer, (a .buffer, (a .numbers, a .enough)))
 
-  pub clauses-then : {More : Type 0} → Answered most text d e r → More → Clauses most text d e r ((length text ≤ most) × More)
+  pub clauses-then : {More : Type 0} → Answered text d e r → More → Clauses text d e r (RoomEnough text d r × More)
   clauses-then a m = (a .answer, (a .buffer, (a .numbers, (a .enough, m))))
 
-  pub by-clauses : Clauses most text d e r (length text ≤ most) → Answered most text d e r
+  pub by-clauses : Clauses text d e r (RoomEnough text d r) → Answered text d e r
   by-clauses c = record { answer = c .0; buffer = c .1 .0; numbers = c .1 .1 .0; enough = c .1 .1 .1 }
 
-  pub by-clauses-then : {More : Type 0} → Clauses most text d e r ((length text ≤ most) × More) → Answered most text d e r
+  pub by-clauses-then : {More : Type 0} → Clauses text d e r (RoomEnough text d r × More) → Answered text d e r
   by-clauses-then c = record { answer = c .0; buffer = c .1 .0; numbers = c .1 .1 .0; enough = c .1 .1 .1 .0 }
 
-pub text-refused : {most : ℕ} (text d : List ℕ) → length d < length text → length text ≤ most → Answered most text d d (Refused BufferShort 0)
+pub text-refused : (text d : List ℕ) → length d < length text → length text ≤ mostText → Answered text d d (Refused BufferShort 0)
 unfolding listedNumbers answerIf heldAfter outputNumbers
 text-refused text d h l =
     let short = room-short (length text) (length d) h in
-    record { answer = rw short; buffer = rw short; numbers = rw short; enough = l }
+    record { answer = rw short; buffer = rw short; numbers = rw short; enough = record { bounded = l; fits = λ m. absurd (omega arith) } }
 
-pub text-printed : {most : ℕ} {d e : List ℕ} {r : ℕ} (text : List ℕ) → Wrote d 0 text e r → length text ≤ length d → length text ≤ most → Answered most text d e (Count r)
+pub text-printed : {d e : List ℕ} {r : ℕ} (text : List ℕ) → Wrote d 0 text e r → length text ≤ length d → length text ≤ mostText → Answered text d e (Count r)
 unfolding listedNumbers answerIf heldAfter outputNumbers
-text-printed {most} {d} {e} {r} text w h l =
+text-printed {d} {e} {r} text w h l =
     let f = in-front w h in
     let long = room-enough (length text) (length d) h in
     record {
       answer = rw long (ap Count (f .0));
       buffer = rw long (f .1);
       numbers = rw long (ap (λ (k : ℕ). (0, k)) (f .0));
-      enough = l;
+      enough = record { bounded = l; fits = λ m. ap Count (f .0) };
     }
 
 -- where bytes were written, there are as many as the text has

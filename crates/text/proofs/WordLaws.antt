@@ -76,7 +76,7 @@ pub free-append : (b : ℕ) (xs ys : List ℕ) → free b xs ≡ true → free b
 free-append b [] ys h k = k
 free-append b (x ∷ xs) ys h k = free-cons b x (xs ++ ys) (eqb-false x b (free-false b x xs h .0)) (free-append b xs ys (free-false b x xs h .1) k)
 
--- a byte past 47 is none of the two cuts
+-- a digit is 48 or more, so neither a space nor 0A
 free-dec : (b f n : ℕ) → b < 48 → free b (dec f n) ≡ true
 unfolding dec free
 free-dec b zero n h = free-cons b (48 + n) [] (λ e. omega arith) refl

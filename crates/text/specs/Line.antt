@@ -1,7 +1,7 @@
 -- A row's line: name, four loads, region, two exceedances, mark, with single spaces.
 use Prim.Native.Nat.{ℕ}
 use mathlib.Core.List.{List, [], _∷_, _++_}
-use lib.ListN.{take}
+use lib.ListN.{take, replicate}
 use Rattle.loads.specs.declared.Loads.{Loads}
 use Rattle.judgement.specs.declared.Verdict.the-variants.{Within}
 use Rattle.judgement.specs.Verdicts.{verdictNumbers, verdictWord}
@@ -9,11 +9,11 @@ use Rattle.text.specs.declared.Row.{Row}
 use Rattle.text.specs.Decimal.{decimal}
 use Rattle.output.specs.Writing.{each}
 
--- what a list of rows has past its end
-abbrev pub noRow : Row
-noRow =
+-- what stands in an array past its rows
+unfoldable pub blankRow : Row
+blankRow =
     record {
-      name = [];
+      name = replicate 8 0;
       «name_len» = 0;
       loads = record { «max_s» = 0; «min_n» = 0; «max_n» = 0; «nut_n» = 0 };
       verdict = Within;

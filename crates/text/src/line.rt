@@ -13,7 +13,7 @@ use crate::columns::put_numbers;
 use judgement::Verdict;
 use output::put_bytes;
 
-// The length of a row's name: bytes past the eighth are none.
+// The length of a row's name: there are no bytes past the eighth.
 fn name_len(row: Row) -> usize
     ensures { λ r. ⌜ (r ≤ 8) × (take r (row .name) ≡ nameText row) × (r ≡ length (nameText row)) ⌝ }
 {

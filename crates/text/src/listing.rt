@@ -2,11 +2,11 @@
 ghost use mathlib.Core.Path.{_≡_};
 ghost use Prim.Native.Nat.{_+_, _≤_};
 ghost use lib.ListN.{length, take};
-ghost use Rattle.text.specs.TextLengths.{mostLines, mostText};
+ghost use Rattle.text.specs.TextLengths.{mostLines};
 ghost use Rattle.output.specs.Writing.{Wrote, each};
 ghost use Rattle.text.specs.Line.{line};
 ghost use Rattle.output.specs.Output.{heldNumbers, held};
-ghost use Rattle.text.specs.TextAnswer.{listedNumbers, textAnswer};
+ghost use Rattle.text.specs.TextAnswer.{listedNumbers, textAnswer, RoomEnough};
 ghost use Rattle.text.specs.Listing.{listing};
 ghost use Rattle.text.specs.Marks.{Marked};
 use crate::Listed;
@@ -50,7 +50,7 @@ pub fn put_listing(out: &mut [u8], rows: [Row; 500], count: usize) -> Listed
     ensures answer { λ r. ⌜ r ≡ textAnswer (listing (take count rows)) (now (out .entry)) ⌝ }
     ensures buffer { λ _. ⌜ now (out .exit) ≡ held (listing (take count rows)) (now (out .entry)) ⌝ }
     ensures numbers { λ r. ⌜ listedNumbers r ≡ heldNumbers (listing (take count rows)) (now (out .entry)) ⌝ }
-    ensures enough { λ _. ⌜ length (listing (take count rows)) ≤ mostText ⌝ }
+    ensures enough { λ r. ⌜ RoomEnough (listing (take count rows)) (now (out .entry)) r ⌝ }
     ensures marks { λ r. ⌜ Marked (take count rows) (now (out .exit)) r ⌝ }
 {
     let mut n = count;

@@ -1,10 +1,7 @@
 // The line of a refusal.
 ghost use mathlib.Core.Path.{_≡_};
-ghost use Prim.Native.Nat.{_≤_};
-ghost use lib.ListN.{length};
-ghost use Rattle.text.specs.TextLengths.{mostText};
 ghost use Rattle.output.specs.Output.{heldNumbers, held};
-ghost use Rattle.text.specs.TextAnswer.{listedNumbers, textAnswer};
+ghost use Rattle.text.specs.TextAnswer.{listedNumbers, textAnswer, RoomEnough};
 ghost use Rattle.text.specs.RefusalLine.{refusal};
 use crate::Listed;
 use crate::decimal::put_decimal;
@@ -18,7 +15,7 @@ pub fn put_refusal(out: &mut [u8], rule: Rule, at: usize) -> Listed
     ensures answer { λ r. ⌜ r ≡ textAnswer (refusal rule at) (now (out .entry)) ⌝ }
     ensures buffer { λ _. ⌜ now (out .exit) ≡ held (refusal rule at) (now (out .entry)) ⌝ }
     ensures numbers { λ r. ⌜ listedNumbers r ≡ heldNumbers (refusal rule at) (now (out .entry)) ⌝ }
-    ensures enough { λ _. ⌜ length (refusal rule at) ≤ mostText ⌝ }
+    ensures enough { λ r. ⌜ RoomEnough (refusal rule at) (now (out .entry)) r ⌝ }
 {
     let number = rule_number(rule);
     let offset = at as u64;

@@ -1,3 +1,4 @@
+-- The loop's invariant: i stays within the line and n within the buffer, whose length is kept.
 use Prim.Native.Nat.{_-_, _≤_}
 use mathlib.Core.Path.{_≡_}
 use native.Mathlib.Omega.{arith}

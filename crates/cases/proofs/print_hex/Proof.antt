@@ -1,3 +1,4 @@
+-- The loop's invariant: i stays within the bytes.
 use Prim.Native.Nat.{_-_, _≤_}
 use lib.ListN.{length}
 use borrow.Author.Needs.{needs}

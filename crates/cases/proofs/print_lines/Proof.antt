@@ -1,3 +1,4 @@
+-- The loop's invariant: at is at most one past the text, as where its last line has no 0A.
 use Prim.Native.Nat.{_+_, _-_, _≤_}
 use lib.ListN.{length}
 use borrow.Author.Needs.{needs}

@@ -1,5 +1,5 @@
 use native.Mathlib.Omega.{arith}
-use Rattle.exports.specs.Results.{refusalCode}
+use Rattle.exports.specs.Codes.{refusalCode}
 use Rattle.exports.proofs.CodeLaws.{number-range}
 use borrow.Author.Needs.{needs}
 use Rattle.exports.proofs.codes.refusal_code_at.Statement.{statement}

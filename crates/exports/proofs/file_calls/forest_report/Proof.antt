@@ -1,7 +1,7 @@
 use mathlib.Core.Path.{ap, _∙_}
 use denote.Ref.{now}
-use Rattle.exports.specs.Results.{listedCode}
-use Rattle.exports.proofs.FileCallLaws.{report-tells}
+use Rattle.exports.specs.Codes.{listedCode}
+use Rattle.exports.proofs.FileCallLaws.{report-decoded}
 use borrow.Author.Needs.{needs}
 use Rattle.exports.proofs.file_calls.forest_report.Statement.{statement}
 use Rattle.exports.proofs.file_calls.forest_report.Tie as tie
@@ -19,7 +19,7 @@ returns : tie.Need-returns
 returns c =
     let e = c .before .before .before .report .ensures in
     let s = c .before .before .before .before .before .before .before in
-    let t = report-tells _ (now (s .args .out)) _ _ _ (e .0) (c .listed-code .ensures) (e .1 .1 .1 .1) (e .1 .1 .1 .0) in
+    let t = report-decoded _ (now (s .args .out)) _ _ _ (e .0) (c .listed-code .ensures) (e .1 .1 .1 .1) (e .1 .1 .1 .0) in
     (c .listed-code .ensures ∙ ap listedCode (e .0), (e .1 .0, (t .0, t .1)))
 
 pub forest-report-spec : {M : Type 1} → statement M

@@ -1,4 +1,4 @@
-use Rattle.exports.specs.Results.{listedCode}
+use Rattle.exports.specs.Codes.{listedCode}
 use borrow.Author.Needs.{needs}
 use Rattle.exports.proofs.file_calls.listed_code.Statement.{statement}
 use Rattle.exports.proofs.file_calls.listed_code.Tie as tie

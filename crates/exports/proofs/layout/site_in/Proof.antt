@@ -1,3 +1,4 @@
+-- Each value is read where `siteIn` has it; the values are named from the last to the first.
 use Rattle.exports.specs.Layout.{siteIn}
 use borrow.Author.Needs.{needs}
 use Rattle.exports.proofs.layout.site_in.Statement.{statement}
@@ -63,26 +64,44 @@ word-at-requires-9 c κs = search needs
 returns : tie.Need-returns
 unfolding siteIn
 returns c =
+    let sulphur = c .before in
+    let leachate = sulphur .before in
+    let ceiling = leachate .before in
+    let gibbsite = ceiling .before in
+    let ratio = gibbsite .before in
+    let base = ratio .before in
+    let available = base .before in
+    let immobilisation = available .before in
+    let entries = immobilisation .before in
+    let percolation = entries .before in
+    let drainage = percolation .before in
+    let depth = drainage .before in
+    let sand = depth .before in
+    let clay = sand .before in
+    let parent = clay .before in
+    let len = parent .before in
+    let stand = len .before in
+    let name = stand .before in
     rw (
       c .word-at9 .ensures,
-      c .before .word-at8 .ensures,
-      c .before .before .word-at7 .ensures,
-      c .before .before .before .word-at6 .ensures,
-      c .before .before .before .before .word-at5 .ensures,
-      c .before .before .before .before .before .word-at4 .ensures,
-      c .before .before .before .before .before .before .word-at3 .ensures,
-      c .before .before .before .before .before .before .before .byte8 .ensures,
-      c .before .before .before .before .before .before .before .before .word-at2 .ensures,
-      c .before .before .before .before .before .before .before .before .before .byte7 .ensures,
-      c .before .before .before .before .before .before .before .before .before .before .word-at .ensures,
-      c .before .before .before .before .before .before .before .before .before .before .before .byte6 .ensures,
-      c .before .before .before .before .before .before .before .before .before .before .before .before .byte5 .ensures,
-      c .before .before .before .before .before .before .before .before .before .before .before .before .before .byte4 .ensures,
-      c .before .before .before .before .before .before .before .before .before .before .before .before .before .before .byte3 .ensures,
-      c .before .before .before .before .before .before .before .before .before .before .before .before .before .before .before .byte2 .ensures,
-      c .before .before .before .before .before .before .before .before .before .before .before .before .before .before .before .before .byte .ensures,
-      c .before .before .before .before .before .before .before .before .before .before .before .before .before .before .before .before .before .stand .ensures,
-      c .before .before .before .before .before .before .before .before .before .before .before .before .before .before .before .before .before .before .name-in .ensures,
+      sulphur .word-at8 .ensures,
+      leachate .word-at7 .ensures,
+      ceiling .word-at6 .ensures,
+      gibbsite .word-at5 .ensures,
+      ratio .word-at4 .ensures,
+      base .word-at3 .ensures,
+      available .byte8 .ensures,
+      immobilisation .word-at2 .ensures,
+      entries .byte7 .ensures,
+      percolation .word-at .ensures,
+      drainage .byte6 .ensures,
+      depth .byte5 .ensures,
+      sand .byte4 .ensures,
+      clay .byte3 .ensures,
+      parent .byte2 .ensures,
+      len .byte .ensures,
+      stand .stand .ensures,
+      name .name-in .ensures,
     )
 
 pub site-in-spec : {M : Type 1} → statement M

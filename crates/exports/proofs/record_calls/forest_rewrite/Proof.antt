@@ -1,3 +1,4 @@
+-- A record that was read passes the writer's check and is written as its own bytes, so that after the reader only 11 can come.
 use denote.Ref.{now}
 use Rattle.exports.proofs.RewriteLaws.{not-read, not-written, rewritten}
 use borrow.Author.Needs.{needs}

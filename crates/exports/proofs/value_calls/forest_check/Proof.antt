@@ -1,7 +1,7 @@
 use mathlib.Core.Path.{_≡_, sym, _∙_}
 use denote.Ref.{now}
 use Rattle.site.specs.Check.{siteRule}
-use Rattle.exports.specs.Results.{codeIf}
+use Rattle.exports.specs.Codes.{codeIf}
 use Rattle.exports.specs.Layout.{valueCheck}
 use Rattle.exports.proofs.SiteValueLaws.{wrong-length, as-site}
 use borrow.Author.Needs.{needs}

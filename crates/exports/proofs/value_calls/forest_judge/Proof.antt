@@ -1,4 +1,5 @@
-use mathlib.Core.Path.{_≡_, sym, _∙_}
+-- The value is refused for its length, by its check or for the room, in this order; else the loads are written, and behind them the verdict.
+use mathlib.Core.Path.{_≡_, sym, ap, _∙_}
 use native.Mathlib.Omega.{arith}
 use denote.Ref.{now}
 use Rattle.site.specs.Check.{siteRule}
@@ -14,11 +15,13 @@ use borrow.Author.Needs.{needs}
 use Rattle.exports.proofs.value_calls.forest_judge.Statement.{statement}
 use Rattle.exports.proofs.value_calls.forest_judge.Tie as tie
 
+-- the function's entry, seen from after the judgement
+abbrev entry : tie.After-judge → tie.Start
+entry c = c .before .before .before .before .before
+
 -- the check of the value, where its length is right
-site-rule : (c : tie.After-judge) → valueCheck (now (c .before .before .before .before .before .args .site)) ≡ siteRule (c .before .site-in .result)
-site-rule c =
-    let b = now (c .before .before .before .before .before .args .site) in
-    as-site b (c .before .before .if1 .left) ∙ rw (c .before .site-in .ensures)
+site-rule : (c : tie.After-judge) → valueCheck (now (entry c .args .site)) ≡ siteRule (c .before .site-in .result)
+site-rule c = as-site (now (entry c .args .site)) (c .before .before .if1 .left) ∙ ap siteRule (sym (c .before .site-in .ensures))
 
 refusal-code-requires : tie.Need-refusal-code-requires
 refusal-code-requires c κs = search needs
@@ -32,12 +35,12 @@ returns c =
 
 -- the value passed, and this is its judgement
 judged-site :
-    (c : tie.After-known-told2) → let b = now (c .before .before .before .before .before .before .before .before .args .site) in
+    (c : tie.After-known-told2) → let b = now (entry (c .before .before .before) .args .site) in
     (valueCheck b ≡ Passed) × (c .before .judged .given .0 .0 ≡ judgedOf (siteIn b))
 judged-site c =
     let at = c .before .before .before in
     let g = judgement-given (at .before .site-in .result) _ (sym (at .judge .ensures .0) ∙ c .before .judged .given .1) in
-    (site-rule at ∙ g .0, g .1 ∙ rw (at .before .site-in .ensures))
+    (site-rule at ∙ g .0, g .1 ∙ ap judgedOf (at .before .site-in .ensures))
 
 site-in-requires : tie.Need-site-in-requires
 site-in-requires c κs = search needs
@@ -60,7 +63,7 @@ refusal-code-requires-3 c κs = search needs
 returns-2 : tie.Need-returns-2
 returns-2 c =
     let at = c .before .before .before .before .before in
-    let s = at .before .before .before .before .before in
+    let s = entry at in
     let b = now (s .args .site) in
     rw (c .refusal-code3 .ensures)
     (with-marks b (now (s .args .out)) _ (value-short b 8 (judgementNumbers (siteIn b)) (now (s .args .out)) (judged-site (c .before .before) .0) (omega arith)))
@@ -77,7 +80,7 @@ put-four-requires-2 c κs = search needs
 returns-3 : tie.Need-returns-3
 returns-3 c =
     let at = c .before .before .before .before in
-    let s = at .before .before .before .before .before in
+    let s = entry at in
     let b = now (s .args .site) in
     rw (c .refusal-code2 .ensures)
     (with-marks b (now (s .args .out)) _ (value-refused b _ 8 (judgementNumbers (siteIn b)) (now (s .args .out))
@@ -93,7 +96,7 @@ returns-4 c =
     let first = second .before .before .before .before in
     let marked = first .before .before in
     let told = marked .before .before .before in
-    let s = told .before .before .before .before .before .before .before .before in
+    let s = entry (told .before .before .before) in
     let b = now (s .args .site) in
     let old = now (s .args .out) in
     let j = judged-site told in

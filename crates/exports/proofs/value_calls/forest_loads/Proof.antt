@@ -1,7 +1,9 @@
-use mathlib.Core.Path.{_≡_, refl, sym, _∙_}
+-- The value is refused for its length, by its check or for the room, in this order; else the loads are written.
+use mathlib.Core.Path.{_≡_, refl, sym, ap, _∙_}
 use native.Mathlib.Omega.{arith}
 use denote.Ref.{now}
 use Rattle.site.specs.Check.{siteRule}
+use Rattle.site.specs.declared.Site.{Site}
 use Rattle.site.specs.declared.Rule.the-variants.{BadLength}
 use Rattle.site.specs.declared.Checked.the-variants.{Passed}
 use Rattle.loads.specs.SiteTerms.{termsOf}
@@ -13,11 +15,13 @@ use borrow.Author.Needs.{needs}
 use Rattle.exports.proofs.value_calls.forest_loads.Statement.{statement}
 use Rattle.exports.proofs.value_calls.forest_loads.Tie as tie
 
+-- the function's entry, seen from after the loads
+abbrev entry : tie.After-critical-loads → tie.Start
+entry c = c .before .before .before .before .before
+
 -- the check of the value, where its length is right
-site-rule : (c : tie.After-critical-loads) → valueCheck (now (c .before .before .before .before .before .args .site)) ≡ siteRule (c .before .site-in .result)
-site-rule c =
-    let b = now (c .before .before .before .before .before .args .site) in
-    as-site b (c .before .before .if1 .left) ∙ rw (c .before .site-in .ensures)
+site-rule : (c : tie.After-critical-loads) → valueCheck (now (entry c .args .site)) ≡ siteRule (c .before .site-in .result)
+site-rule c = as-site (now (entry c .args .site)) (c .before .before .if1 .left) ∙ ap siteRule (sym (c .before .site-in .ensures))
 
 refusal-code-requires : tie.Need-refusal-code-requires
 refusal-code-requires c κs = search needs
@@ -30,12 +34,12 @@ returns c =
 
 -- the value passed, and these are its loads
 loaded :
-    (c : tie.After-known-told2) → let b = now (c .before .before .before .before .before .before .before .before .args .site) in
+    (c : tie.After-known-told2) → let b = now (entry (c .before .before .before) .args .site) in
     (valueCheck b ≡ Passed) × (c .before .l .given .0 .0 ≡ loadsOf (termsOf (siteIn b)))
 loaded c =
     let at = c .before .before .before in
     let g = loads-given (at .before .site-in .result) _ (sym (at .critical-loads .ensures .0) ∙ c .before .l .given .1) in
-    (site-rule at ∙ g .0, g .1 ∙ rw (at .before .site-in .ensures))
+    (site-rule at ∙ g .0, g .1 ∙ ap (λ (s : Site). loadsOf (termsOf s)) (at .before .site-in .ensures))
 
 site-in-requires : tie.Need-site-in-requires
 site-in-requires c κs = search needs
@@ -58,7 +62,7 @@ refusal-code-requires-3 c κs = search needs
 returns-2 : tie.Need-returns-2
 returns-2 c =
     let at = c .before .before .before .before .before in
-    let s = at .before .before .before .before .before in
+    let s = entry at in
     let b = now (s .args .site) in
     rw (c .refusal-code3 .ensures)
     (value-short b 4 (loadsNumbers (siteIn b)) (now (s .args .out)) (loaded (c .before .before) .0) (c .before .if2 .taken))
@@ -69,7 +73,7 @@ put-four-requires c κs = search needs
 returns-3 : tie.Need-returns-3
 returns-3 c =
     let at = c .before .before .before .before in
-    let s = at .before .before .before .before .before in
+    let s = entry at in
     let b = now (s .args .site) in
     rw (c .refusal-code2 .ensures)
     (value-refused b _ 4 (loadsNumbers (siteIn b)) (now (s .args .out))
@@ -83,7 +87,7 @@ unfolding loadsNumbers loadsOf
 returns-4 c =
     let put = c .before .before in
     let told = put .before .before .before in
-    let s = told .before .before .before .before .before .before .before .before in
+    let s = entry (told .before .before .before) in
     let b = now (s .args .site) in
     let old = now (s .args .out) in
     let l = loaded told in

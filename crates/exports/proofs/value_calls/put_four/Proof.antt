@@ -1,8 +1,11 @@
+use Prim.Native.Nat.{ℕ}
 use native.Mathlib.Omega.{arith}
 use mathlib.Core.Path.{_≡_}
-use lib.ListN.{length, length-set}
+use mathlib.Core.List.{List, [], _∷_}
+use lib.ListN.{length, getD, length-set}
 use Rattle.output.proofs.WritingLaws.{stored, and-stored, ending}
-use Rattle.exports.proofs.CodeLaws.{four}
+use Rattle.site.specs.Bytes.{tabulate}
+use Rattle.field.proofs.TabulateLaws.{tabulate-getD}
 use borrow.Author.Needs.{needs}
 use Rattle.exports.proofs.value_calls.put_four.Statement.{statement}
 use Rattle.exports.proofs.value_calls.put_four.Tie as tie
@@ -55,11 +58,16 @@ slice-write-out-4 c = simp length-set (omega arith)
 same-length : tie.Need-same-length
 same-length c = search needs
 
+-- the four elements are the array
+elements : (l : List ℕ) → length l ≡ 4 → getD l 0 0 ∷ getD l 1 0 ∷ getD l 2 0 ∷ getD l 3 0 ∷ [] ≡ l
+unfolding tabulate
+elements l e = rw e at (tabulate-getD l 0)
+
 returns : tie.Need-returns
 returns c =
     let a = c .args in
     let e : length (a .t3) ≡ 4 = search needs in
-    rw (← four (a .t3) e) (ending (and-stored (and-stored (and-stored (stored _ _ _) _ _ (omega arith)) _ _ (omega arith)) _ _ (omega arith)) _ (omega arith))
+    rw (← elements (a .t3) e) (ending (and-stored (and-stored (and-stored (stored _ _ _) _ _ (omega arith)) _ _ (omega arith)) _ _ (omega arith)) _ (omega arith))
 
 pub put-four-spec : {M : Type 1} → statement M
 put-four-spec =

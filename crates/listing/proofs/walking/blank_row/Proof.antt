@@ -1,5 +1,5 @@
 use mathlib.Core.Path.{refl}
-use Rattle.listing.specs.Rows.{blankRow}
+use Rattle.text.specs.Line.{blankRow}
 use Rattle.listing.proofs.walking.blank_row.Statement.{statement}
 use Rattle.listing.proofs.walking.blank_row.Tie as tie
 

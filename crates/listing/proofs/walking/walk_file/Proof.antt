@@ -1,4 +1,4 @@
--- `listing::walking::walk` meets its contract: at each turn the rows so far, and the walk over the rest, give what the file holds.
+-- The loop's invariant: the rows so far, and the walk over the rest, give what the file holds.
 use Prim.Native.Nat.{_-_, _≤_, _<_}
 use mathlib.Core.Path.{_≡_, refl}
 use native.Mathlib.Omega.{arith}
@@ -9,12 +9,12 @@ use Rattle.site.specs.Ranges.{mostRecords}
 use Rattle.record.specs.File.{contents}
 use Rattle.listing.specs.Rows.{padded}
 use Rattle.record.proofs.SiteFile.{sites-none}
-use Rattle.listing.proofs.LoopLaws.{So, so-start, so-end, so-full, turn-bad, turn-good, turn-on, with-numbers, with-fault}
+use Rattle.listing.proofs.LoopLaws.{SoFar, Taken, so-start, so-end, so-full, step-bad, step-good, step-on, with-numbers, with-fault}
 use Rattle.listing.proofs.walking.walk_file.Statement.{statement}
 use Rattle.listing.proofs.walking.walk_file.Tie as tie
 
 abbrev Inv-loop : tie.InvT-loop
-Inv-loop file rows₀ count₀ at₀ rows count at = (at ≤ length file) × (count ≤ mostRecords) × (length rows ≡ mostRecords) × So file rows count at
+Inv-loop file rows₀ count₀ at₀ rows count at = (at ≤ length file) × (count ≤ mostRecords) × (length rows ≡ mostRecords) × SoFar file rows count at
 
 abbrev μ-loop : tie.MeasureT-loop
 μ-loop file rows₀ count₀ at₀ rows count at = length file - at
@@ -38,8 +38,8 @@ refused-rows-requires-2 c κs = search needs
 returns-2 : tie.Need-returns-2 Inv-loop μ-loop
 returns-2 c = with-fault (so-full (c .before .before .before .loop .inv .3) (c .before .before .loop-test .taken) (omega arith)) (c .refused-rows2 .ensures)
 
-turn-requires : tie.Need-turn-requires Inv-loop μ-loop
-turn-requires c κs = search needs
+step-requires : tie.Need-step-requires Inv-loop μ-loop
+step-requires c κs = search needs
 
 enum-known-o : tie.Need-enum-known-o Inv-loop μ-loop
 enum-known-o c = search needs
@@ -47,11 +47,16 @@ enum-known-o c = search needs
 refused-rows-requires-3 : tie.Need-refused-rows-requires-3 Inv-loop μ-loop
 refused-rows-requires-3 c κs = search needs
 
+-- the state of the loop from which a step was taken
+abbrev at-loop : tie.After-step Inv-loop μ-loop → tie.At-loop Inv-loop μ-loop
+at-loop t = t .before .before .before
+
+taken : (t : tie.After-step Inv-loop μ-loop)
+    → Taken (now (at-loop t .before .before .before .before .args .file)) (at-loop t .loop .rows) (at-loop t .loop .count) (at-loop t .loop .at) (t .step .result)
+taken t = record { so = at-loop t .loop .inv .3; inside = t .before .before .loop-test .taken; fewer = t .before .if2 .left; is = t .step .ensures }
+
 returns-3 : tie.Need-returns-3 Inv-loop μ-loop
-returns-3 c =
-    let t = c .before .before .before .before in
-    with-fault (turn-bad (t .before .before .before .loop .inv .3) (t .before .before .loop-test .taken) (t .before .if2 .left) (t .turn .ensures) (c .before .before .o .given .1))
-    (c .refused-rows3 .ensures)
+returns-3 c = with-fault (step-bad (taken (c .before .before .before .before)) (c .before .before .o .given .1)) (c .refused-rows3 .ensures)
 
 enum-told : tie.Need-enum-told Inv-loop μ-loop
 enum-told c = search needs
@@ -66,12 +71,9 @@ add-count : tie.Need-add-count Inv-loop μ-loop
 add-count c = search needs
 
 -- where an accepted record ends
-on : (c : tie.After-r Inv-loop μ-loop)
-    → (c .before .before .before .before .before .before .loop .at < c .before .before .before .turn .result .next)
-    × (c .before .before .before .turn .result .next ≤ length (now (c .before .before .before .before .before .before .before .before .before .before .args .file)))
-on c =
-    let t = c .before .before .before in
-    turn-on (t .before .before .before .loop .inv .3) (t .before .before .loop-test .taken) (t .before .if2 .left) (t .turn .ensures) (c .before .enum-told .given .1)
+on : (c : tie.After-r Inv-loop μ-loop) → let t = c .before .before .before in
+    (at-loop t .loop .at < t .step .result .next) × (t .step .result .next ≤ length (now (at-loop t .before .before .before .before .args .file)))
+on c = step-on (taken (c .before .before .before)) (c .before .enum-told .given .1)
 
 loop-less : tie.Need-loop-less Inv-loop μ-loop
 loop-less c = omega (arith, on c)
@@ -79,8 +81,8 @@ loop-less c = omega (arith, on c)
 loop-again : tie.Need-loop-again Inv-loop μ-loop
 loop-again c =
     let t = c .before .before .before in
-    let so = turn-good (t .before .before .before .loop .inv .3) (t .before .before .loop-test .taken) (t .before .if2 .left) (t .turn .ensures) (c .before .enum-told .given .1) in
-    (on c .1, so .few, simp length-set (t .before .before .before .loop .inv .2), so)
+    let so = step-good (taken t) (c .before .enum-told .given .1) in
+    (on c .1, so .few, simp length-set (at-loop t .loop .inv .2), so)
 
 returns-4 : tie.Need-returns-4 Inv-loop μ-loop
 returns-4 c =
@@ -99,7 +101,7 @@ walk-file-spec =
     loop-holds
     refused-rows-requires-2
     returns-2
-    turn-requires
+    step-requires
     enum-known-o
     refused-rows-requires-3
     returns-3

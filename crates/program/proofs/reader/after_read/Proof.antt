@@ -3,12 +3,12 @@ use lib.IntN.{ℤ}
 use mir.Syntax.{w64}
 use mir.Val.{toZ, ofZ}
 use mir.ValLaws.{toZ-ofZ}
-use Rattle.program.proofs.ReaderLaws.{positive, fits, failed, nothing, beyond, more, full}
+use Rattle.program.proofs.ReaderLaws.{not-negative, fits, failed, nothing, beyond, more, full}
 use borrow.Author.Needs.{needs}
 use Rattle.program.proofs.reader.after_read.Statement.{statement}
 use Rattle.program.proofs.reader.after_read.Tie as tie
 
--- what the machine reads back of the number that was given: the same number
+-- a number as a word of 64 bits, read as a signed number: the same number
 abbrev back : ℤ → ℤ
 back g = toZ w64 (ofZ w64 g)
 
@@ -22,7 +22,7 @@ cast-n : tie.Need-cast-n
 cast-n c =
     let s = c .before in
     let a = s .args in
-    (positive (back (a .got)) (c .if1 .left), rw (toZ-ofZ w64 (a .got) (s .fits .got)) (fits (a .got) (s .fits .got)))
+    (not-negative (back (a .got)) (c .if1 .left), rw (toZ-ofZ w64 (a .got) (s .fits .got)) (fits (a .got) (s .fits .got)))
 
 returns-2 : tie.Need-returns-2
 returns-2 c =

@@ -1,3 +1,4 @@
+-- The loop's invariant: done bytes are in the buffer, and some numbers of reads lead there (`Reached`).
 use Prim.Native.Nat.{ℕ, _-_, _≤_, _<_}
 use mathlib.Core.Path.{_≡_, refl, sym, _∙_}
 use mathlib.Core.Logic.{_⊎_, inl, inr}

@@ -1,3 +1,4 @@
+-- The loop's invariant: n is the length of the first i numbers with their spaces.
 use Prim.Native.Nat.{_-_, _*_, _≤_}
 use mathlib.Core.Path.{_≡_}
 use native.Mathlib.Omega.{arith}

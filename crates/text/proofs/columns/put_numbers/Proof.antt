@@ -1,4 +1,4 @@
--- `text::columns::put_numbers` meets its contract: after i turns the first i numbers are written.
+-- The loop's invariant: the first i numbers are written.
 use Prim.Native.Nat.{_-_, _≤_}
 use mathlib.Core.Path.{_≡_, refl}
 use native.Mathlib.Omega.{arith}

@@ -1,3 +1,4 @@
+-- The loop's invariant: behind the digits of rest, which are to be written, stand those that are written (`Partly`).
 use Prim.Native.Nat.{_+_, _≤_}
 use mathlib.Core.Path.{_≡_, refl}
 use native.Mathlib.Omega.{arith}

@@ -1,4 +1,4 @@
--- `text::decimal::width` meets its contract: at each turn n has at least k digits, and bound is 10 ^ k.
+-- The loop's invariant: n has at least k digits, and bound is 10 ^ k.
 use Prim.Native.Nat.{_-_, _^_, _≤_}
 use mathlib.Core.Path.{_≡_, refl}
 use native.Mathlib.Omega.{arith}
@@ -7,7 +7,7 @@ use native.Mathlib.Numerals.{add-one}
 use borrow.Author.Needs.{needs}
 use lib.ListN.{length}
 use Rattle.text.specs.Decimal.{decimal}
-use Rattle.text.proofs.DecimalLaws.{length-pos, length-below, length-above, length-word, power-mono}
+use Rattle.text.proofs.DecimalLaws.{length-pos, length-below, length-above, length-u64, power-mono}
 use Rattle.text.proofs.decimal.width.Statement.{statement}
 use Rattle.text.proofs.decimal.width.Tie as tie
 
@@ -50,7 +50,7 @@ returns-3 : tie.Need-returns-3 Inv-loop μ-loop
 returns-3 c =
     let l = c .before .before in
     let s = l .before in
-    omega (arith, length-above (l .loop .k) (s .args .n) (omega arith), length-word (s .args .n) (s .fits .n .fits))
+    omega (arith, length-above (l .loop .k) (s .args .n) (omega arith), length-u64 (s .args .n) (s .fits .n .fits))
 
 pub width-spec : {M : Type 1} → statement M
 width-spec = tie.close (tie.spec Inv-loop μ-loop loop-holds returns mul-bound add-k loop-less loop-again returns-2 returns-3)

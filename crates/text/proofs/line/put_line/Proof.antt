@@ -1,6 +1,6 @@
--- `text::line::put_line` meets its contract: each call writes the next part of the line.
+-- Each call writes the next part of the line.
 use borrow.Author.Needs.{needs}
-use Prim.Native.Nat.{ℕ, _+_, _≤_}
+use Prim.Native.Nat.{ℕ, _+_, _≤_, _<_}
 use mathlib.Core.Path.{_≡_, ap}
 use mathlib.Core.List.{List}
 use native.Mathlib.Omega.{arith}
@@ -49,20 +49,36 @@ name-wrote c =
     let n = c .before .before .before .before .before .name-len .ensures in
     rw (n .1) at (c .put-bytes .ensures .fits (rw (n .1) (omega (arith, room (c .before), n .2))))
 
+-- back from each part of the line to the part before it
+abbrev name-put : tie.After-put-numbers → tie.After-put-bytes
+name-put c = c .before .before .before .before
+
+abbrev numbers-put : tie.After-put-mark → tie.After-put-numbers
+numbers-put c = c .before .before .before .before
+
+-- the room behind the name
+room-left : (c : tie.After-put-bytes)
+    → c .put-bytes .result + length (each column (c .before .before .before .before .numbers .result)) + length (verdictWord (s0 (c .before) .args .row .verdict)) + 2
+    ≤ length (c .put-bytes .last .0)
+room-left c = omega (arith, room (c .before), slice-aggregate-put-bytes (c .before), name-wrote c .next)
+
 put-numbers-requires : tie.Need-put-numbers-requires
-put-numbers-requires c κs = omega (arith, room (c .before .before .before .before), slice-aggregate-put-bytes (c .before .before .before .before), name-wrote (c .before .before .before) .next)
+put-numbers-requires c κs = omega (arith, room-left (c .before .before .before))
 
 put-mark-requires : tie.Need-put-mark-requires
 unfolding spaced
-put-mark-requires c κs = let b = (c .before .before .before .before .before .before .before .before) in omega (arith, room b, slice-aggregate-put-bytes b, name-wrote (c .before .before .before .before .before .before .before) .next)
+put-mark-requires c κs = omega (arith, room-left (name-put (c .before .before .before)))
+
+-- the line's end fits
+fits : (c : tie.After-put-mark) → c .put-mark .result < length (c .put-mark .last .0)
+unfolding spaced
+fits c = omega (arith, room-left (name-put (numbers-put c)))
 
 slice-write-out : tie.Need-slice-write-out
-unfolding spaced
-slice-write-out c = let b = (c .before .before .before .before .before .before .before .before .before .before .before) in omega (arith, room b, slice-aggregate-put-bytes b, name-wrote (c .before .before .before .before .before .before .before .before .before .before) .next)
+slice-write-out c = fits (c .before .before)
 
 add-result : tie.Need-add-result
-unfolding spaced
-add-result c = let b = (c .before .before .before .before .before .before .before .before .before .before .before) in omega (arith, room b, slice-aggregate-put-bytes b, name-wrote (c .before .before .before .before .before .before .before .before .before .before) .next, s0 b .good)
+add-result c = omega (arith, fits (c .before .before), s0 (name-put (numbers-put (c .before .before)) .before) .good)
 
 same-length : tie.Need-same-length
 same-length c = simp length-set (omega arith)

@@ -1,12 +1,13 @@
+-- The loop's invariant: n is the length of the first i lines.
 use Prim.Native.Nat.{_-_, _*_, _≤_}
 use mathlib.Core.Path.{_≡_}
 use native.Mathlib.Omega.{arith}
 use borrow.Author.Needs.{needs}
 use lib.ListN.{length, take}
 use Rattle.text.specs.TextLengths.{mostLine}
-use Rattle.text.specs.Line.{noRow, line}
+use Rattle.text.specs.Line.{line}
 use Rattle.output.specs.Writing.{each}
-use Rattle.output.proofs.EachLaws.{length-more}
+use Rattle.text.proofs.LineLaws.{length-lines-more}
 use Rattle.text.proofs.listing.lines_len.Statement.{statement}
 use Rattle.text.proofs.listing.lines_len.Tie as tie
 
@@ -43,7 +44,7 @@ loop-again c =
     let s = c .before .before .before .before in
     let i = c .before .before .before .loop .i in
     let n : length (s .args .t1) ≡ 500 = search needs in
-    let e = length-more line (s .args .t1) i noRow (omega arith) in
+    let e = length-lines-more (s .args .t1) i _ (omega arith) (c .line-len .ensures .0) in
     omega arith
 
 returns : tie.Need-returns Inv-loop μ-loop

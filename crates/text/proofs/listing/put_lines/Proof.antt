@@ -1,13 +1,14 @@
--- `text::listing::put_lines` meets its contract: after i turns the first i lines are written.
+-- The loop's invariant: the first i lines are written.
 use Prim.Native.Nat.{_-_, _≤_}
 use mathlib.Core.Path.{_≡_, refl}
 use native.Mathlib.Omega.{arith}
-use lib.ListN.{length, getD, take}
+use lib.ListN.{length, take}
 use borrow.Author.Needs.{needs}
 use Rattle.output.specs.Writing.{Wrote, each}
-use Rattle.text.specs.Line.{noRow, line}
+use Rattle.text.specs.Line.{line}
 use Rattle.output.proofs.WritingLaws.{nothing, then, room, kept}
-use Rattle.output.proofs.EachLaws.{each-more, each-room}
+use Rattle.output.proofs.EachLaws.{each-room}
+use Rattle.text.proofs.LineLaws.{lines-more}
 use Rattle.text.proofs.listing.put_lines.Statement.{statement}
 use Rattle.text.proofs.listing.put_lines.Tie as tie
 
@@ -33,8 +34,8 @@ put-line-requires c κs =
     let at-loop = c .before .before .before in
     let i = at-loop .loop .i in
     let n : length (s .args .t3) ≡ 500 = search needs in
-    room (line (getD (s .args .t3) i noRow)) (at-loop .loop .inv .2)
-    (each-room line (s .args .at) (s .args .t3) i (s .args .count) noRow (omega arith) (omega arith) (s .pre .1))
+    room _ (at-loop .loop .inv .2)
+    (each-room line (s .args .at) (s .args .t3) i (s .args .count) _ (omega arith) (omega arith) (s .pre .1))
 
 add-i : tie.Need-add-i Inv-loop μ-loop
 add-i c = omega arith
@@ -49,7 +50,7 @@ loop-again c =
     let i = at-loop .loop .i in
     let n : length (s .args .t3) ≡ 500 = search needs in
     let w = then (at-loop .loop .inv .2) (c .before .before .put-line .ensures) in
-    (omega arith, kept w, rw (each-more line (s .args .t3) i noRow (omega arith)) w)
+    (omega arith, kept w, lines-more (s .args .t3) i _ (omega arith) w)
 
 same-length : tie.Need-same-length Inv-loop μ-loop
 same-length c = omega arith

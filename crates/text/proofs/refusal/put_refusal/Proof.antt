@@ -1,4 +1,4 @@
-use Prim.Native.Nat.{_+_, _≤_}
+use Prim.Native.Nat.{_+_, _≤_, _<_}
 use mathlib.Core.Path.{_≡_}
 use native.Mathlib.Omega.{arith}
 use denote.Ref.{now}
@@ -52,20 +52,34 @@ slice-aggregate-put-bytes-2 c = search needs
 put-bytes-requires-2 : tie.Need-put-bytes-requires-2
 put-bytes-requires-2 c κs = search needs
 
-room : (c : tie.After-put-bytes2) → c .before .before .before .before .before .put-decimal .result + 4 ≤ length (c .before .before .before .before .before .put-decimal .last .0)
-room c = omega (arith, first (c .before .before .before .before .before .before .before .before .before))
+-- back from each part of the line to the part before it
+abbrev refused-put : tie.After-put-decimal → tie.After-put-bytes
+refused-put c = c .before .before .before .before
 
-second : (c : tie.After-put-bytes2) → c .put-bytes2 .result ≡ c .before .before .before .before .before .put-decimal .result + 4
+abbrev number-put : tie.After-put-bytes2 → tie.After-put-decimal
+number-put c = c .before .before .before .before .before
+
+abbrev at-put : tie.After-put-decimal2 → tie.After-put-bytes2
+at-put c = c .before .before .before .before
+
+room : (c : tie.After-put-bytes2) → number-put c .put-decimal .result + 4 ≤ length (number-put c .put-decimal .last .0)
+room c = omega (arith, first (refused-put (number-put c)))
+
+second : (c : tie.After-put-bytes2) → c .put-bytes2 .result ≡ number-put c .put-decimal .result + 4
 second c = c .put-bytes2 .ensures .fits (room c) .next
 
 put-decimal-requires-2 : tie.Need-put-decimal-requires-2
-put-decimal-requires-2 c κs = omega (arith, first (c .before .before .before .before .before .before .before .before .before .before .before .before), second (c .before .before .before))
+put-decimal-requires-2 c κs = let at = c .before .before .before in omega (arith, first (refused-put (number-put at)), second at)
+
+-- the line's end fits
+fits : (c : tie.After-put-decimal2) → c .put-decimal2 .result < length (c .put-decimal2 .last .0)
+fits c = let at = at-put c in omega (arith, first (refused-put (number-put at)), second at)
 
 slice-write-out : tie.Need-slice-write-out
-slice-write-out c = omega (arith, first (c .before .before .before .before .before .before .before .before .before .before .before .before .before .before .before), second (c .before .before .before .before .before .before))
+slice-write-out c = fits (c .before .before)
 
 add-t16 : tie.Need-add-t16
-add-t16 c = omega (arith, first (c .before .before .before .before .before .before .before .before .before .before .before .before .before .before .before), second (c .before .before .before .before .before .before))
+add-t16 c = omega (arith, fits (c .before .before))
 
 same-length : tie.Need-same-length
 same-length c = simp length-set (omega arith)
@@ -74,9 +88,9 @@ returns-2 : tie.Need-returns-2
 unfolding refusedLine refusedWord atWord
 returns-2 c =
     let d4 = c .before .before in
-    let b3 = d4 .before .before .before .before in
-    let d2 = b3 .before .before .before .before .before in
-    let b1 = d2 .before .before .before .before in
+    let b3 = at-put d4 in
+    let d2 = number-put b3 in
+    let b1 = refused-put d2 in
     let n = b1 .before .before .before .before .before .before in
     let s = n .before .before in
     let text = refusedLine (n .rule-number .result) (s .args .at) in

@@ -1,8 +1,8 @@
 use denote.Ref.{now}
-use Rattle.listing.proofs.TurnLaws.{turn-refused, judged, turn-accepted}
+use Rattle.listing.proofs.StepLaws.{step-refused, judged, step-accepted}
 use borrow.Author.Needs.{needs}
-use Rattle.listing.proofs.walking.turn.Statement.{statement}
-use Rattle.listing.proofs.walking.turn.Tie as tie
+use Rattle.listing.proofs.walking.step.Statement.{statement}
+use Rattle.listing.proofs.walking.step.Tie as tie
 
 read-at-requires : tie.Need-read-at-requires
 read-at-requires c κs = search needs
@@ -35,7 +35,7 @@ returns : tie.Need-returns
 returns c =
     let x = c .before .before .before .before .before in
     let s = x .before .before in
-    turn-refused (now (s .args .file)) (s .args .at) (x .read-at .result) (x .read-at .ensures .0) (c .before .before .o .given .1) (c .blank-row .ensures)
+    step-refused (now (s .args .file)) (s .args .at) (x .read-at .result) (x .read-at .ensures .0) (c .before .before .o .given .1) (c .blank-row .ensures)
 
 returns-2 : tie.Need-returns-2
 returns-2 c =
@@ -49,10 +49,10 @@ returns-3 c =
     let j = c .before .before .before .before in
     let x = j .before .before .before .before in
     let s = x .before .before in
-    turn-accepted (now (s .args .file)) (s .args .at) (x .read-at .result) (x .read-at .ensures .0) (j .before .enum-told .given .1) (j .judge .ensures .0) (c .before .before .j2 .given .1) (c .row-by .ensures)
+    step-accepted (now (s .args .file)) (s .args .at) (x .read-at .result) (x .read-at .ensures .0) (j .before .enum-told .given .1) (j .judge .ensures .0) (c .before .before .j2 .given .1) (c .row-by .ensures)
 
-pub turn-spec : {M : Type 1} → statement M
-turn-spec =
+pub step-spec : {M : Type 1} → statement M
+step-spec =
     tie.close
     (tie.spec
     read-at-requires

@@ -1,10 +1,7 @@
 // What the program prints for a file.
 ghost use mathlib.Core.Path.{_≡_};
-ghost use Prim.Native.Nat.{_≤_};
-ghost use lib.ListN.{length};
-ghost use Rattle.text.specs.TextLengths.{mostText};
 ghost use Rattle.output.specs.Output.{heldNumbers, held};
-ghost use Rattle.text.specs.TextAnswer.{listedNumbers, textAnswer};
+ghost use Rattle.text.specs.TextAnswer.{listedNumbers, textAnswer, RoomEnough};
 ghost use Rattle.listing.specs.Reports.{reportOf};
 ghost use Rattle.listing.specs.PrintedDemand3.{WrittenDemand3};
 use crate::walking::walk_file;
@@ -18,7 +15,7 @@ pub fn report(file: &[u8], out: &mut [u8]) -> Listed
     ensures answer { λ r. ⌜ r ≡ textAnswer (reportOf (now (file .entry))) (now (out .entry)) ⌝ }
     ensures buffer { λ _. ⌜ now (out .exit) ≡ held (reportOf (now (file .entry))) (now (out .entry)) ⌝ }
     ensures numbers { λ r. ⌜ listedNumbers r ≡ heldNumbers (reportOf (now (file .entry))) (now (out .entry)) ⌝ }
-    ensures enough { λ _. ⌜ length (reportOf (now (file .entry))) ≤ mostText ⌝ }
+    ensures enough { λ r. ⌜ RoomEnough (reportOf (now (file .entry))) (now (out .entry)) r ⌝ }
     ensures demand3 { λ r. ⌜ WrittenDemand3 (now (file .entry)) (now (out .exit)) r ⌝ }
 {
     let w = walk_file(file);

@@ -31,9 +31,9 @@ unfoldable pub listedCode : Listed → ℕ
 listedCode (Count n) = n
 listedCode (NotListed r at) = refusalCode r at
 
--- What the number r says. A count is given as itself and is below 2³². A refusal is rule number × 2³² + offset, and the offset is below
+-- What the number r says: it decodes to the answer. A count is given as itself and is below 2³². A refusal is rule number × 2³² + offset, and the offset is below
 -- 2³²: so r / 2³² is the rule's number, 0 for a count, and r % 2³² the offset.
-pub record Told (answer : Listed) (r : ℕ) : Type 0 where
+pub record Decodes (answer : Listed) (r : ℕ) : Type 0 where
   pub below : r < codeBase → answer ≡ Count r
   pub count : (n : ℕ) → answer ≡ Count n → (r ≡ n) × (r < codeBase)
   pub refusal : (rule : Rule) (at : ℕ) → answer ≡ NotListed rule at → (r ≡ ruleNumber rule * codeBase + at) × (at < codeBase)

@@ -2,8 +2,8 @@ use denote.Ref.{now}
 use Rattle.record.specs.File.{contents}
 use Rattle.listing.proofs.ListLaws.{found-sites, found-fault, by-sites, reported-sites, reported-fault}
 use borrow.Author.Needs.{needs}
-use Rattle.listing.proofs.printing.report.Statement.{statement}
-use Rattle.listing.proofs.printing.report.Tie as tie
+use Rattle.listing.proofs.reporting.report.Statement.{statement}
+use Rattle.listing.proofs.reporting.report.Tie as tie
 
 walk-file-requires : tie.Need-walk-file-requires
 walk-file-requires c κs = search needs
