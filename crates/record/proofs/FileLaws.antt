@@ -1,19 +1,21 @@
 -- Laws of the walk over a file, for every record reader.
 use Prim.Native.Nat.{ℕ, zero, suc, _+_, _-_, _*_, _≤_, _<_}
 use mathlib.Core.Path.{_≡_, refl, sym, ap, _∙_, subst}
+use mathlib.Core.Logic.{⊎-elim}
 use mathlib.Core.Bool.{Bool, true, false}
 use mathlib.Core.List.{List, [], _∷_, _++_, map}
 use native.Mathlib.Omega.{arith}
-use borrow.Author.Tests.{le-leb, lt-leb, leb-true, leb-false}
+use borrow.Author.Tests.{le-leb, lt-leb, leb-true, leb-false, eq-eqb, ne-eqb}
 use lib.Dec.{leb}
 use lib.ListN.{length, take, drop, length-take, length-drop, length-append, drop-of-length-le, take-append-drop}
 use lib.Seq.{drop-drop, drop-at}
 use Rattle.output.specs.Writing.{each}
-use Rattle.site.specs.Ranges.{mostRecords}
 use Rattle.site.specs.Choice.{pick}
+use Rattle.site.proofs.Tests.{le-or-lt}
 use Rattle.site.specs.declared.Rule.the-variants.{NoBytes, TooMany}
 use Rattle.record.specs.Result.{Result, good, fault}
-use Rattle.record.specs.File.{Contents, first, onto, walkFile, contentsBy}
+use Rattle.record.specs.File.{Contents, first, onto, walkFile, contentsBy, alone}
+use Rattle.record.specs.Records.{onlyOne, single}
 use Rattle.field.proofs.All.{All, none, _▸_}
 use Rattle.record.proofs.ResultLaws.{not-good, good-same}
 
@@ -33,15 +35,15 @@ module _ {A : Type 0} (read : ℕ → Result (A × ℕ)) (len : ℕ) where
   unfolding walkFile
   walk-step n at h = rw (lt-leb len at h)
 
-  pub contents-none : len ≤ 0 → contentsBy read len ≡ fault NoBytes 0
+  pub contents-none : (most : ℕ) → len ≤ 0 → contentsBy most read len ≡ fault NoBytes 0
   unfolding contentsBy
-  contents-none h = rw (le-leb len 0 h)
+  contents-none most h = rw (le-leb len 0 h)
 
-  pub contents-some : 0 < len → contentsBy read len ≡ walkFile read len mostRecords 0
+  pub contents-some : (most : ℕ) → 0 < len → contentsBy most read len ≡ walkFile read len most 0
   unfolding contentsBy
-  contents-some h = rw (lt-leb len 0 h)
+  contents-some most h = rw (lt-leb len 0 h)
 
--- ---- a walk that passes: its last turn, or a record and what follows it
+-- ---- a walk that passes: its end, or a record and what follows it
 
 module _ {A : Type 0} where
   pub record Onto (q : Result (A × ℕ)) (more : ℕ → Contents A) (xs : List A) : Type 0 where
@@ -65,7 +67,7 @@ module _ {A : Type 0} where
   pick-good false P e end more = more refl e
 
 module _ {A : Type 0} (read : ℕ → Result (A × ℕ)) (len : ℕ) where
-  -- P of the list xs that a walk gave: shown for the last turn, and for a record and what follows it
+  -- P of the list xs that a walk gave: shown for the end, and for a record and what follows it
   pub walk-by : (P : ℕ → ℕ → List A → Type 0) → ((n at : ℕ) → len ≤ at → P n at [])
       → ((n at : ℕ) (x : A × ℕ) (xs : List A) → at < len → read at ≡ good x → P n (x .1) xs → P (suc n) at (x .0 ∷ xs))
       → (n at : ℕ) (xs : List A) → walkFile read len n at ≡ good xs → P n at xs
@@ -79,19 +81,42 @@ module _ {A : Type 0} (read : ℕ → Result (A × ℕ)) (len : ℕ) where
       let o = onto-good (read at) (λ after. walkFile read len n after) xs q in
       subst (P (suc n) at) (sym (o .is)) (more n at (o .found) (o .rest) (leb-false len at t) (o .reads) (walk-by P end more n (o .found .1) (o .rest) (o .goes-on))))
 
-  pub contents-walked : (xs : List A) → contentsBy read len ≡ good xs → walkFile read len mostRecords 0 ≡ good xs
+  contents-walked : (most : ℕ) (xs : List A) → contentsBy most read len ≡ good xs → walkFile read len most 0 ≡ good xs
   unfolding contentsBy
-  contents-walked xs e = go (leb len 0) e
+  contents-walked most xs e = go (leb len 0) e
     where
-      go : (b : Bool) → pick b (fault NoBytes 0) (walkFile read len mostRecords 0) ≡ good xs → walkFile read len mostRecords 0 ≡ good xs
+      go : (b : Bool) → pick b (fault NoBytes 0) (walkFile read len most 0) ≡ good xs → walkFile read len most 0 ≡ good xs
       go true e = not-good e
       go false e = e
 
-  -- what each record that is read has, all values have that a file holds; they are at most 500
+  -- what each record that is read has, all values have that a file holds; they are at most `most`
   pub contents-every : (P : A → Type 0) → ((at : ℕ) (x : A × ℕ) → read at ≡ good x → P (x .0))
-      → (xs : List A) → contentsBy read len ≡ good xs → (length xs ≤ mostRecords) × All P xs
-  contents-every P each xs e =
-      walk-by (λ n at xs. (length xs ≤ n) × All P xs) (λ n at h. (omega arith, none)) (λ n at x xs h r p. (omega (arith, p .0), each at x r ▸ p .1)) mostRecords 0 xs (contents-walked xs e)
+      → (most : ℕ) (xs : List A) → contentsBy most read len ≡ good xs → (length xs ≤ most) × All P xs
+  contents-every P each most xs e =
+      walk-by (λ n at xs. (length xs ≤ n) × All P xs) (λ n at h. (omega arith, none)) (λ n at x xs h r p. (omega (arith, p .0), each at x r ▸ p .1)) most 0 xs (contents-walked most xs e)
+
+-- ---- the file of at most one record
+
+module _ {A : Type 0} (read : ℕ → Result (A × ℕ)) (len : ℕ) (inside : (x : A × ℕ) → read 0 ≡ good x → x .1 ≤ len) where
+  only-is : (q : Result (A × ℕ)) → ((x : A × ℕ) → q ≡ good x → x .1 ≤ len) → onto q (walkFile read len zero) ≡ alone (onlyOne len q)
+  unfolding onto first alone onlyOne walkFile
+  only-is (fault rule at) inside = refl
+  only-is (good x) inside =
+      ⊎-elim
+      (λ (past : len ≤ x .1). let end : x .1 ≡ len = omega (arith, inside x refl) in rw (le-leb len (x .1) past, eq-eqb (x .1) len end))
+      (λ (more : x .1 < len). let before : x .1 ≡ len → ⊥ = λ end. omega arith in rw (lt-leb len (x .1) more, ne-eqb (x .1) len before))
+      (le-or-lt len (x .1))
+
+  -- it is the file of 1 to `most` records where most is 1
+  pub file-of-one : contentsBy 1 read len ≡ alone (single read len)
+  unfolding contentsBy single alone
+  file-of-one =
+      ⊎-elim
+      (λ (nothing : len ≤ 0). let z : len ≡ 0 = omega arith in rw (le-leb len 0 nothing, eq-eqb len 0 z))
+      (λ (some : 0 < len).
+      let z : len ≡ 0 → ⊥ = λ e. omega arith in
+      rw (lt-leb len 0 some, ne-eqb len 0 z, walk-step read len 0 0 some) (only-is (read 0) inside))
+      (le-or-lt len 0)
 
 -- ---- files that go on past what the walk looks at
 
@@ -121,18 +146,18 @@ module _ {A : Type 0} (read : List ℕ → ℕ → Result (A × ℕ)) (w : ℕ) 
       (λ x e. walk-take f m n (x .1) (omega (arith, near f at x e))) in
       rw (leb-take at m f (omega arith), local m at f (omega arith), same)
 
-  -- 500 records, and a byte more
-  pub contents-more : (f : List ℕ) (m : ℕ) → w * mostRecords + 1 ≤ m → contentsBy (read (take m f)) (length (take m f)) ≡ contentsBy (read f) (length f)
+  -- as many records as may come, and a byte more
+  pub contents-more : (most : ℕ) (f : List ℕ) (m : ℕ) → w * most + 1 ≤ m → contentsBy most (read (take m f)) (length (take m f)) ≡ contentsBy most (read f) (length f)
   unfolding contentsBy
-  contents-more f m h = rw (leb-take 0 m f (omega arith), walk-take f m mostRecords 0 (omega arith))
+  contents-more most f m h = rw (leb-take 0 m f (omega arith), walk-take f m most 0 (omega arith))
 
 -- ---- what was read is written: the file is the records of its values, one after another
 
 module _ {A : Type 0} (read : ℕ → Result (A × ℕ)) (encode : A → List ℕ) (f : List ℕ)
     (bytes : (at : ℕ) (x : A × ℕ) → read at ≡ good x → (at ≤ x .1) × (encode (x .0) ≡ take (x .1 - at) (drop at f))) where
-  pub contents-written : (xs : List A) → contentsBy read (length f) ≡ good xs → f ≡ each encode xs
+  pub contents-written : (most : ℕ) (xs : List A) → contentsBy most read (length f) ≡ good xs → f ≡ each encode xs
   unfolding each
-  contents-written xs e =
+  contents-written most xs e =
       walk-by read (length f) (λ n at xs. drop at f ≡ each encode xs)
       (λ n at h. drop-of-length-le f {i = at} h)
       (λ n at x xs h r p.
@@ -140,9 +165,9 @@ module _ {A : Type 0} (read : ℕ → Result (A × ℕ)) (encode : A → List �
       let k : at + (x .1 - at) ≡ x .1 = omega (arith, b .0) in
       let d : drop (x .1 - at) (drop at f) ≡ drop (x .1) f = rw (drop-drop, k) in
       sym (rw (b .1, sym p, sym d) (take-append-drop (x .1 - at) (drop at f))))
-      mostRecords 0 xs (contents-walked read (length f) xs e)
+      most 0 xs (contents-walked read (length f) most xs e)
 
--- ---- what was written is read: 1 to 500 values, encoded one after another
+-- ---- what was written is read: values, encoded one after another
 
 module _ {A : Type 0} (read : List ℕ → ℕ → Result (A × ℕ)) (encode : A → List ℕ) (clean : A → A) (Ok : A → Type 0)
     (some : (x : A) → 1 ≤ length (encode x))
@@ -158,10 +183,10 @@ module _ {A : Type 0} (read : List ℕ → ℕ → Result (A × ℕ)) (encode : 
       let d : drop (at + length (encode x)) f ≡ rest = sym (drop-drop (length (encode x)) at f) ∙ rw e (drop-at (encode x) rest (length (encode x)) refl) in
       rw (walk-step (read f) (length f) n at (omega (arith, length-drop at f, some x)), reads x p f at rest e, walk-read f xs ps n (at + length (encode x)) (omega arith) d)
 
-  pub contents-read : (xs : List A) → All Ok xs → 1 ≤ length xs → length xs ≤ mostRecords
-      → contentsBy (read (each encode xs)) (length (each encode xs)) ≡ good (map clean xs)
+  pub contents-read : (most : ℕ) (xs : List A) → All Ok xs → 1 ≤ length xs → length xs ≤ most
+      → contentsBy most (read (each encode xs)) (length (each encode xs)) ≡ good (map clean xs)
   unfolding each
-  contents-read [] ps h l = absurd (omega arith)
-  contents-read (x ∷ xs) ps h l =
+  contents-read most [] ps h l = absurd (omega arith)
+  contents-read most (x ∷ xs) ps h l =
       let f = encode x ++ each encode xs in
-      contents-some (read f) (length f) (simp length-append (omega (arith, some x))) ∙ walk-read f (x ∷ xs) ps mostRecords 0 l refl
+      contents-some (read f) (length f) most (simp length-append (omega (arith, some x))) ∙ walk-read f (x ∷ xs) ps most 0 l refl

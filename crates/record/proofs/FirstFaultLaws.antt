@@ -6,11 +6,10 @@ use mathlib.Core.Logic.{_⊎_, inl, inr, ⊎-elim}
 use mathlib.Core.List.{List, [], _∷_}
 use native.Mathlib.Omega.{arith}
 use native.Mathlib.Nat.{mul-le-mul-left}
-use borrow.Author.Tests.{eqb-true, eqb-false, leb-true, leb-false}
+use borrow.Author.Tests.{eqb-false, leb-true, leb-false}
 use lib.Dec.{leb, eqb}
 use lib.ListN.{getD, length, length-take, length-drop}
 use Rattle.site.specs.Choice.{pick}
-use Rattle.site.specs.Ranges.{mostRecords}
 use Rattle.site.specs.Refusal.{andThen}
 use Rattle.site.specs.declared.Rule.{Rule}
 use Rattle.site.specs.declared.Rule.the-variants.{InnerTag, TooMany, NoBytes}
@@ -20,9 +19,9 @@ use Rattle.field.specs.Kind.{Kind, fieldRule}
 use Rattle.record.specs.Result.{Result, good, fault, unless}
 use Rattle.record.specs.FieldParts.{statedLen, valueAt, restAt}
 use Rattle.record.specs.Fields.{headRule, walkFields, fieldsIn}
-use Rattle.record.specs.Records.{mostRecord, outerRule, ending, recordIn, onlyOne, single}
+use Rattle.record.specs.Records.{mostRecord, outerRule, ending, recordIn}
 use Rattle.record.specs.File.{Contents, first, onto, walkFile, contentsBy}
-use Rattle.record.specs.FirstFault.{FieldsAccepted, none, next, FirstField, OuterBroken, InnerBroken, RecordsAccepted, RecordBroken, OneTooMany, FirstFault, FirstSingle}
+use Rattle.record.specs.FirstFault.{FieldsAccepted, none, next, FirstField, OuterBroken, InnerBroken, RecordsAccepted, RecordBroken, OneTooMany, FirstFault, Empty, FileFault}
 use Rattle.record.proofs.WalkLaws.{head-passed}
 use Rattle.record.proofs.RecordLaws.{outer-passed}
 
@@ -157,33 +156,14 @@ module _ {A : Type 0} (read : ℕ → Result (A × ℕ)) (len : ℕ) (rule : Rul
       by-end again true q e = not-fault e
       by-end again false q e = by-record again q (read from) refl e
 
-  -- a file of at most one record
-  pub first-in-single : single read len ≡ fault rule at → ((len ≡ 0) × (rule ≡ NoBytes) × (at ≡ 0)) ⊎ FirstSingle read len rule at
-  unfolding single onlyOne
-  first-in-single e = by-length (eqb len 0) refl e
-    where
-      by-end : (x : A × ℕ) → read 0 ≡ good x → (b : Bool) → eqb (x .1) len ≡ b → _≡_ {A = Result A} (pick b (good (x .0)) (fault TooMany (x .1))) (fault rule at) → FirstSingle read len rule at
-      by-end x r true q e = not-fault e
-      by-end x r false q e = inr (record { found = x; reads = r; left = eqb-false (x .1) len q; broken = sym (fault-rule e); offset = sym (fault-at e) })
-
-      by-record : (q : Result (A × ℕ)) → read 0 ≡ q → onlyOne len q ≡ fault rule at → FirstSingle read len rule at
-      by-record (fault k i) r e = inl (r ∙ rw (fault-rule e, fault-at e))
-      by-record (good x) r e = by-end x r (eqb (x .1) len) refl e
-
-      by-length : (b : Bool) → eqb len 0 ≡ b → pick b (fault NoBytes 0) (onlyOne len (read 0)) ≡ fault rule at
-          → ((len ≡ 0) × (rule ≡ NoBytes) × (at ≡ 0)) ⊎ FirstSingle read len rule at
-      by-length true q e = inl (eqb-true len 0 q, sym (fault-rule e), sym (fault-at e))
-      by-length false q e = inr (by-record (read 0) refl e)
-
-  -- 1 to 500 records: no bytes, or the first fault from the left
-  pub first-in-file : contentsBy read len ≡ fault rule at → ((len ≡ 0) × (rule ≡ NoBytes) × (at ≡ 0)) ⊎ FirstFault read len mostRecords 0 rule at
+  -- no bytes, or the first fault from the left
+  pub first-in-file : (most : ℕ) → contentsBy most read len ≡ fault rule at → FileFault read len most rule at
   unfolding contentsBy
-  first-in-file e = by-length (leb len 0) refl e
+  first-in-file most e = by-length (leb len 0) refl e
     where
-      by-length : (b : Bool) → leb len 0 ≡ b → pick b (fault NoBytes 0) (walkFile read len mostRecords 0) ≡ fault rule at
-          → ((len ≡ 0) × (rule ≡ NoBytes) × (at ≡ 0)) ⊎ FirstFault read len mostRecords 0 rule at
-      by-length true q e = inl (omega (arith, leb-true len 0 q), sym (fault-rule e), sym (fault-at e))
-      by-length false q e = inr (first-in-walk mostRecords 0 e)
+      by-length : (b : Bool) → leb len 0 ≡ b → pick b (fault NoBytes 0) (walkFile read len most 0) ≡ fault rule at → FileFault read len most rule at
+      by-length true q e = inl (record { nothing = omega (arith, leb-true len 0 q); broken = sym (fault-rule e); offset = sym (fault-at e) })
+      by-length false q e = inr (first-in-walk most 0 e)
 
 -- ---- where a fault can lie
 
@@ -211,21 +191,21 @@ module _ {A : Type 0} (read : ℕ → Result (A × ℕ)) (w : ℕ) (near : (at :
       let step : w * suc (length xs) ≡ w + w * length xs = omega arith in
       omega (arith, through-near more, near from x r, step)
 
-  -- no fault of a file lies past 500 records of the greatest length
-  pub file-fault-near : ((at : ℕ) (rule : Rule) (i : ℕ) → read at ≡ fault rule i → i ≤ at + w) → (len : ℕ) {rule : Rule} {at : ℕ}
-      → contentsBy read len ≡ fault rule at → at ≤ w * mostRecords
-  file-fault-near faulty len {rule} {at} e =
+  -- no fault of a file lies past its records of the greatest length
+  pub file-fault-near : ((at : ℕ) (rule : Rule) (i : ℕ) → read at ≡ fault rule i → i ≤ at + w) → (len most : ℕ) {rule : Rule} {at : ℕ}
+      → contentsBy most read len ≡ fault rule at → at ≤ w * most
+  file-fault-near faulty len most {rule} {at} e =
       ⊎-elim
-      (λ (none : (len ≡ 0) × (rule ≡ NoBytes) × (at ≡ 0)). omega (arith, none .2))
-      (λ (f : FirstFault read len mostRecords 0 rule at).
+      (λ (none : Empty len rule at). omega (arith, none .offset))
+      (λ (f : FirstFault read len most 0 rule at).
       let start = through-near (f .accepted) in
       ⊎-elim
-      (λ (b : RecordBroken read mostRecords (f .before) (f .start) rule at).
-      let most : w * suc (length (f .before)) ≤ w * mostRecords = mul-le-mul-left w (b .few) in
+      (λ (b : RecordBroken read most (f .before) (f .start) rule at).
+      let in-all : w * suc (length (f .before)) ≤ w * most = mul-le-mul-left w (b .few) in
       let step : w * suc (length (f .before)) ≡ w + w * length (f .before) = omega arith in
-      omega (arith, start, faulty (f .start) rule at (b .broken), most, step))
-      (λ (m : OneTooMany mostRecords (f .before) (f .start) rule at).
-      let most : w * length (f .before) ≡ w * mostRecords = rw (m .many) in
-      omega (arith, start, m .offset, most))
+      omega (arith, start, faulty (f .start) rule at (b .broken), in-all, step))
+      (λ (m : OneTooMany most (f .before) (f .start) rule at).
+      let in-all : w * length (f .before) ≡ w * most = rw (m .many) in
+      omega (arith, start, m .offset, in-all))
       (f .here))
-      (first-in-file read len rule at e)
+      (first-in-file read len rule at most e)

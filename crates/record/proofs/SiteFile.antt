@@ -1,6 +1,6 @@
 -- Laws of a file of site records.
 use Prim.Native.Nat.{ℕ, _*_, _≤_, _<_}
-use mathlib.Core.Path.{_≡_, sym, _∙_}
+use mathlib.Core.Path.{_≡_, sym, ap, _∙_}
 use mathlib.Core.Logic.{_⊎_}
 use mathlib.Core.List.{List, map}
 use native.Mathlib.Omega.{arith}
@@ -16,35 +16,38 @@ use Rattle.record.specs.Result.{good, fault}
 use Rattle.field.specs.Field.{siteKind}
 use Rattle.record.specs.Outer.{siteTag, siteKinds, siteAt, onlySite}
 use Rattle.record.specs.Records.{mostRecord}
-use Rattle.record.specs.FirstFault.{OuterBroken, InnerBroken, FirstFault, FirstSingle}
-use Rattle.record.specs.File.{walkFile, contents, mostFile}
+use Rattle.record.specs.FirstFault.{OuterBroken, InnerBroken, FileFault}
+use Rattle.record.specs.File.{walkFile, contentsBy, alone, contents, mostFile}
 use Rattle.field.specs.Clean.{clean, Sized, AllBytes}
 use Rattle.record.specs.Writer.{encode}
 use Rattle.field.proofs.All.{All}
 use Rattle.record.proofs.EncodeLaws.{length-encode}
-use Rattle.record.proofs.FileLaws.{contents-none, contents-some, contents-every, contents-more, contents-written, contents-read}
-use Rattle.record.proofs.FirstFaultLaws.{first-in-record, first-in-file, first-in-single, file-fault-near}
-use Rattle.record.proofs.Place.{site-take, site-fault-near, site-near, site-after, site-passes, site-bytes, site-read}
+use Rattle.record.proofs.FileLaws.{contents-none, contents-some, contents-every, file-of-one, contents-more, contents-written, contents-read}
+use Rattle.record.proofs.FirstFaultLaws.{first-in-record, first-in-file, file-fault-near}
+use Rattle.record.proofs.Place.{site-take, site-fault-near, site-near, site-inside, site-after, site-passes, site-bytes, site-read}
 
 module _ (f : List ℕ) where
   pub sites-none : length f ≤ 0 → contents f ≡ fault NoBytes 0
   unfolding contents
-  sites-none h = contents-none (siteAt f) (length f) h
+  sites-none h = contents-none (siteAt f) (length f) mostRecords h
 
   pub sites-some : 0 < length f → contents f ≡ walkFile (siteAt f) (length f) mostRecords 0
   unfolding contents
-  sites-some h = contents-some (siteAt f) (length f) h
+  sites-some h = contents-some (siteAt f) (length f) mostRecords h
 
   -- a fault is the first from the left
-  pub sites-first-fault : {rule : Rule} {at : ℕ} → contents f ≡ fault rule at
-      → ((length f ≡ 0) × (rule ≡ NoBytes) × (at ≡ 0)) ⊎ FirstFault (siteAt f) (length f) mostRecords 0 rule at
+  pub sites-first-fault : {rule : Rule} {at : ℕ} → contents f ≡ fault rule at → FileFault (siteAt f) (length f) mostRecords rule at
   unfolding contents
-  sites-first-fault {rule} {at} e = first-in-file (siteAt f) (length f) rule at e
+  sites-first-fault {rule} {at} e = first-in-file (siteAt f) (length f) rule at mostRecords e
 
-  -- of a single record too
-  pub single-first-fault : {rule : Rule} {at : ℕ} → onlySite f ≡ fault rule at
-      → ((length f ≡ 0) × (rule ≡ NoBytes) × (at ≡ 0)) ⊎ FirstSingle (siteAt f) (length f) rule at
-  single-first-fault {rule} {at} e = first-in-single (siteAt f) (length f) rule at e
+  -- a single record is read as a file of at most one, with 4 for bytes after that one
+  pub single-is : contentsBy 1 (siteAt f) (length f) ≡ alone (onlySite f)
+  single-is = file-of-one (siteAt f) (length f) (λ x r. site-inside f 0 r)
+
+  -- so of a single record too the first fault is given
+  pub single-first-fault : {rule : Rule} {at : ℕ} → onlySite f ≡ fault rule at → FileFault (siteAt f) (length f) 1 rule at
+  unfolding alone
+  single-first-fault {rule} {at} e = first-in-file (siteAt f) (length f) rule at 1 (single-is ∙ ap alone e)
 
   -- and within the record that starts at an offset
   pub site-first-fault : (start : ℕ) {rule : Rule} {at : ℕ} → siteAt f start ≡ fault rule at
@@ -55,21 +58,21 @@ module _ (f : List ℕ) where
   -- a fault of a file lies at most 500 records of the greatest length from the start
   pub sites-fault-near : {rule : Rule} {at : ℕ} → contents f ≡ fault rule at → at ≤ mostRecord * mostRecords
   unfolding contents
-  sites-fault-near e = file-fault-near (siteAt f) mostRecord (λ at x r. site-near f at r) (λ at rule i r. site-fault-near f at r) (length f) e
+  sites-fault-near e = file-fault-near (siteAt f) mostRecord (λ at x r. site-near f at r) (λ at rule i r. site-fault-near f at r) (length f) mostRecords e
 
   -- the sites of a file that passes: at most 500, and each passes the check
   pub sites-checked : (ss : List Site) → contents f ≡ good ss → (length ss ≤ mostRecords) × All (λ s. siteRule s ≡ Passed) ss
   unfolding contents
-  sites-checked ss e = contents-every (siteAt f) (length f) (λ s. siteRule s ≡ Passed) (λ at x r. site-passes f at r) ss e
+  sites-checked ss e = contents-every (siteAt f) (length f) (λ s. siteRule s ≡ Passed) (λ at x r. site-passes f at r) mostRecords ss e
 
   pub sites-more : (m : ℕ) → mostFile ≤ m → contents (take m f) ≡ contents f
   unfolding contents
-  sites-more m h = contents-more siteAt mostRecord site-take (λ g at x r. site-near g at r) f m (omega arith)
+  sites-more m h = contents-more siteAt mostRecord site-take (λ g at x r. site-near g at r) mostRecords f m (omega arith)
 
   -- a file that passes is the records of its sites, one after another
   pub sites-written : AllBytes f → (ss : List Site) → contents f ≡ good ss → f ≡ each encode ss
   unfolding contents
-  sites-written b ss e = contents-written (siteAt f) encode f (λ at x r. (omega (arith, site-after f at r), site-bytes f at r b)) ss e
+  sites-written b ss e = contents-written (siteAt f) encode f (λ at x r. (omega (arith, site-after f at r), site-bytes f at r b)) mostRecords ss e
 
 -- 1 to 500 sites that pass, encoded one after another, are read back, with zeros past their names and entries
 pub sites-read : (ss : List Site) → All (λ s. Sized s × (siteRule s ≡ Passed)) ss → 1 ≤ length ss → length ss ≤ mostRecords
@@ -77,7 +80,7 @@ pub sites-read : (ss : List Site) → All (λ s. Sized s × (siteRule s ≡ Pass
 unfolding contents siteAt
 sites-read ss ok h l =
     contents-read siteAt encode clean (λ s. Sized s × (siteRule s ≡ Passed)) (λ s. omega (arith, length-encode siteKind s))
-    (λ s p f at rest e. rw e (site-read s (p .0) (p .1) rest at)) ss ok h l
+    (λ s p f at rest e. rw e (site-read s (p .0) (p .1) rest at)) mostRecords ss ok h l
 
 -- two different files never hold the same sites
 pub sites-injective : (f g : List ℕ) → AllBytes f → AllBytes g → (ss : List Site) → contents f ≡ good ss → contents g ≡ good ss → f ≡ g

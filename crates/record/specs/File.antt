@@ -32,14 +32,19 @@ walkFile read len (suc n) at =
     let next = onto (read at) (λ after. walkFile read len n after) in
     pick (leb len at) (good []) next
 
--- a file: 1 to 500 records
-unfoldable pub contentsBy : {A : Type 0} → (ℕ → Result (A × ℕ)) → ℕ → Contents A
-contentsBy read len = pick (leb len 0) (fault NoBytes 0) (walkFile read len mostRecords 0)
+-- a file of 1 to `most` records
+unfoldable pub contentsBy : {A : Type 0} → ℕ → (ℕ → Result (A × ℕ)) → ℕ → Contents A
+contentsBy most read len = pick (leb len 0) (fault NoBytes 0) (walkFile read len most 0)
 
--- the bytes of a file that are looked at: 500 records, and one more; 129001
+-- what a file holds whose only record is r
+unfoldable pub alone : {A : Type 0} → Result A → Contents A
+alone (good x) = good (x ∷ [])
+alone (fault rule at) = fault rule at
+
+-- the bytes of a file that are looked at: 500 records of the greatest length, and one byte more; 129001
 abbrev pub mostFile : ℕ
 mostFile = mostRecords * mostRecord + 1
 
--- a file of site records
+-- a file of site records: 1 to 500
 unfoldable pub contents : List ℕ → Contents Site
-contents f = contentsBy (siteAt f) (length f)
+contents f = contentsBy mostRecords (siteAt f) (length f)

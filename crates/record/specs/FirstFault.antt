@@ -7,7 +7,7 @@ use mathlib.Core.List.{List, [], _∷_, _++_}
 use lib.ListN.{length}
 use Rattle.site.specs.Refusal.{andThen}
 use Rattle.site.specs.declared.Rule.{Rule}
-use Rattle.site.specs.declared.Rule.the-variants.{InnerTag, TooMany}
+use Rattle.site.specs.declared.Rule.the-variants.{NoBytes, InnerTag, TooMany}
 use Rattle.site.specs.declared.Checked.the-variants.{Passed, Broken}
 use Rattle.field.specs.Kind.{Kind, fieldRule}
 use Rattle.record.specs.Result.{Result, good, fault}
@@ -78,14 +78,12 @@ pub record FirstFault {A : Type 0} (read : ℕ → Result (A × ℕ)) (len most 
   pub left : start < len
   pub here : RecordBroken read most before start rule at ⊎ OneTooMany most before start rule at
 
--- in a file of at most one record: bytes stand after an accepted one, 4 at the first of them
-pub record BytesAfter {A : Type 0} (read : ℕ → Result (A × ℕ)) (len : ℕ) (rule : Rule) (at : ℕ) : Type 0 where
-  pub found : A × ℕ
-  pub reads : read 0 ≡ good found
-  pub left : found .1 ≡ len → ⊥
-  pub broken : rule ≡ TooMany
-  pub offset : at ≡ found .1
+-- a file of no bytes: 1 at 0
+pub record Empty (len : ℕ) (rule : Rule) (at : ℕ) : Type 0 where
+  pub nothing : len ≡ 0
+  pub broken : rule ≡ NoBytes
+  pub offset : at ≡ 0
 
--- the fault of a file of at most one record that has bytes: the record's own, or bytes after it
-abbrev pub FirstSingle : {A : Type 0} → (ℕ → Result (A × ℕ)) → (len : ℕ) → Rule → (at : ℕ) → Type 0
-FirstSingle read len rule at = (read 0 ≡ fault rule at) ⊎ BytesAfter read len rule at
+-- the fault of a file of len bytes that may hold 1 to `most` records
+abbrev pub FileFault : {A : Type 0} → (ℕ → Result (A × ℕ)) → (len most : ℕ) → Rule → (at : ℕ) → Type 0
+FileFault read len most rule at = Empty len rule at ⊎ FirstFault read len most 0 rule at
