@@ -7,12 +7,11 @@ ghost use Prim.Native.Nat.{_≤_};
 ghost use lib.ListN.{length};
 ghost use Rattle.io.specs.Counts.{Counts};
 use listing::report;
+use output::Written;
 use record::Outcome;
-use record::Written;
 use record::read_record;
 use record::write_record;
 use site::Rule;
-use text::Listed;
 use text::put_refusal;
 
 // The value of a hexadecimal digit, or 16.
@@ -79,21 +78,21 @@ fn print_hex(bytes: &[u8]) {
     io::write_all(1, b"\n");
 }
 
-fn print_listed(out: &[u8], listed: Listed) {
-    match listed {
-        Listed::Count(n) => {
+fn print_written(out: &[u8], written: Written) {
+    match written {
+        Written::Count(n) => {
             if n <= out.len() {
                 io::write_all(1, &out[..n]);
             }
         }
-        Listed::Refused { rule: _, at: _ } => {}
+        Written::Refused { rule: _, at: _ } => {}
     }
 }
 
 fn print_refusal(rule: Rule, at: usize) {
     let mut out = [0u8; 64];
-    let listed = put_refusal(&mut out, rule, at);
-    print_listed(&out, listed);
+    let written = put_refusal(&mut out, rule, at);
+    print_written(&out, written);
 }
 
 // A record read, and written again into a lent buffer.
@@ -104,7 +103,7 @@ fn print_rewritten(bytes: &[u8], out: &mut [u8]) {
     match outcome {
         Outcome::Refused { rule, at } => print_refusal(rule, at),
         Outcome::Accepted => match write_record(site, out) {
-            Written::Refused(rule) => print_refusal(rule, 0),
+            Written::Refused { rule, at } => print_refusal(rule, at),
             Written::Count(n) => {
                 if n <= out.len() {
                     print_hex(&out[..n]);
@@ -117,8 +116,8 @@ fn print_rewritten(bytes: &[u8], out: &mut [u8]) {
 fn print_vector(kind: u8, bytes: &[u8], out: &mut [u8]) {
     match kind {
         70 => {
-            let listed = report(bytes, out);
-            print_listed(out, listed);
+            let written = report(bytes, out);
+            print_written(out, written);
         }
         82 => print_rewritten(bytes, out),
         83 => {

@@ -9,6 +9,7 @@ use Rattle.site.specs.Refusal.{andThen}
 use Rattle.site.specs.Check.{siteRule}
 use Rattle.site.specs.declared.Rule.{Rule}
 use Rattle.site.specs.declared.Rule.the-variants.{BadLength, BufferShort}
+use Rattle.site.specs.declared.Checked.{Checked}
 use Rattle.site.specs.declared.Checked.the-variants.{Passed, Broken}
 use Rattle.site.specs.declared.Site.{Site}
 use Rattle.site.proofs.Passing.{both-passed}
@@ -19,13 +20,15 @@ use Rattle.judgement.specs.Verdicts.{verdict, verdictNumbers}
 use Rattle.judgement.specs.Balance.{MarkSays}
 use Rattle.judgement.proofs.Demand3.{verdict-tells}
 use Rattle.judgement.proofs.AtSites.{site-bounds}
-use Rattle.output.specs.Output.{outputRule, heldAfter}
+use Rattle.site.specs.ByCheck.{answerIf}
+use Rattle.output.specs.declared.Written.the-variants.{Count, Refused}
+use Rattle.output.specs.Output.{writeAnswer, outputRule, heldAfter}
 use Rattle.output.specs.Writing.{Wrote}
 use Rattle.output.proofs.WritingLaws.{in-front}
 use Rattle.output.proofs.OutputLaws.{output-broken, output-short, output-whole, output-passed}
-use Rattle.exports.specs.Codes.{refusalCode, codeIf}
-use Rattle.exports.proofs.CodeLaws.{code-passed}
-use Rattle.exports.specs.Layout.{siteIn, valueCheck, loadsNumbers, markNumber, verdictMarked, judgementNumbers}
+use Rattle.exports.specs.Codes.{codeBase, writtenCode, Decodes}
+use Rattle.exports.proofs.CodeLaws.{count-below, by-check-decodes}
+use Rattle.exports.specs.Layout.{siteIn, valueCheck, valueAnswer, loadsNumbers, markNumber, verdictMarked, judgementNumbers}
 
 module _ (b : List ℕ) where
   pub wrong-length : (length b ≡ 50 → ⊥) → valueCheck b ≡ Broken BadLength
@@ -36,28 +39,38 @@ module _ (b : List ℕ) where
   unfolding valueCheck andThen
   as-site h = rw (eq-eqb (length b) 50 h)
 
+-- the check alone: its answer, and what the number says
+pub check-promised : (c : Checked) {r : ℕ} → r ≡ writtenCode (writeAnswer c 0) → (r ≡ writtenCode (writeAnswer c 0)) × Decodes (writeAnswer c 0) r
+check-promised c e = (e, by-check-decodes c 0 (omega arith) e)
+
+-- ---- `needed` numbers xs are to stand in a slice that holds `old`
+
+module _ (b : List ℕ) (needed : ℕ) (small : needed < codeBase) (xs old : List ℕ) where
+  -- answer, buffer, and what the number says
+  abbrev Promises : ℕ → List ℕ → Type 0
+  Promises r new =
+      (r ≡ writtenCode (valueAnswer b needed (length old)))
+      × ((new ≡ heldAfter (outputRule (valueCheck b) needed (length old)) xs old) × Decodes (valueAnswer b needed (length old)) r)
+
+  promised : {r : ℕ} {new : List ℕ} → r ≡ writtenCode (valueAnswer b needed (length old)) → new ≡ heldAfter (outputRule (valueCheck b) needed (length old)) xs old → Promises r new
+  promised a h = (a, (h, by-check-decodes _ needed small a))
+
   -- a refusal of the value
-  pub value-refused : (r : Rule) (needed : ℕ) (xs old : List ℕ) → valueCheck b ≡ Broken r
-      → (refusalCode r 0 ≡ codeIf (outputRule (valueCheck b) needed (length old)) needed)
-      × (old ≡ heldAfter (outputRule (valueCheck b) needed (length old)) xs old)
-  unfolding codeIf heldAfter
-  value-refused r needed xs old e = rw (output-broken needed (length old) (valueCheck b) r e) (refl, refl)
+  pub value-refused : (r : Rule) → valueCheck b ≡ Broken r → Promises (writtenCode (Refused r 0)) old
+  unfolding answerIf heldAfter
+  value-refused r e = let q = output-broken needed (length old) (valueCheck b) r e in promised (rw q) (rw q)
 
   -- a slice that is too short
-  pub value-short : (needed : ℕ) (xs old : List ℕ) → valueCheck b ≡ Passed → length old < needed
-      → (refusalCode BufferShort 0 ≡ codeIf (outputRule (valueCheck b) needed (length old)) needed)
-      × (old ≡ heldAfter (outputRule (valueCheck b) needed (length old)) xs old)
-  unfolding codeIf heldAfter
-  value-short needed xs old e h = rw (output-short needed (length old) (valueCheck b) e h) (refl, refl)
+  pub value-short : valueCheck b ≡ Passed → length old < needed → Promises (writtenCode (Refused BufferShort 0)) old
+  unfolding answerIf heldAfter
+  value-short e h = let q = output-short needed (length old) (valueCheck b) e h in promised (rw q) (rw q)
 
   -- success
-  pub value-written : {r : ℕ} (needed : ℕ) (xs old new : List ℕ) → valueCheck b ≡ Passed → length xs ≡ needed → needed ≤ length old → Wrote old 0 xs new r
-      → (needed ≡ codeIf (outputRule (valueCheck b) needed (length old)) needed)
-      × (new ≡ heldAfter (outputRule (valueCheck b) needed (length old)) xs old)
-  unfolding codeIf heldAfter
-  value-written needed xs old new e l h w = rw (output-whole needed (length old) (valueCheck b) e h) (refl, in-front w (omega arith) .1)
+  pub value-written : {r : ℕ} {new : List ℕ} → valueCheck b ≡ Passed → length xs ≡ needed → needed ≤ length old → Wrote old 0 xs new r → Promises needed new
+  unfolding answerIf heldAfter writtenCode
+  value-written e l h w = let q = output-whole needed (length old) (valueCheck b) e h in promised (rw q) (rw q (in-front w (omega arith) .1))
 
-pub length-marked : (v : Verdict) → length (verdictMarked v) ≡ 4
+length-marked : (v : Verdict) → length (verdictMarked v) ≡ 4
 unfolding verdictMarked verdictNumbers
 length-marked Within = refl
 length-marked (Over r x y) = refl
@@ -72,14 +85,19 @@ mark-tells : (s : Site) → siteRule s ≡ Passed → MarkSays (markNumber (verd
 unfolding markNumber
 mark-tells s p = verdict-tells (termsOf s) (site-bounds s p) (s .sulphur) (s .nitrogen) markNumber refl (λ r a n. refl) (λ e. omega arith)
 
-site-passes : (b : List ℕ) → valueCheck b ≡ Passed → siteRule (siteIn b) ≡ Passed
+value-passes : (b : List ℕ) → valueCheck b ≡ Passed → siteRule (siteIn b) ≡ Passed
 unfolding valueCheck
-site-passes b e = both-passed _ _ e .1
+value-passes b e = both-passed _ _ e .1
 
 mark-at : (v : Verdict) (rest : List ℕ) → getD (verdictMarked v ++ rest) 3 0 ≡ markNumber v
 unfolding verdictMarked verdictNumbers markNumber
 mark-at Within rest = refl
 mark-at (Over g x y) rest = refl
+
+counted-passed : (c : Checked) (n : ℕ) {k : ℕ} → writeAnswer c n ≡ Count k → c ≡ Passed
+unfolding answerIf
+counted-passed Passed n e = refl
+counted-passed (Broken r) n e = let z : _≡_ {A = ℕ} 0 1 = cc in absurd (omega arith)
 
 module _ (b old new : List ℕ) where
   mark-is :
@@ -92,16 +110,16 @@ module _ (b old new : List ℕ) where
       rw q (mark-at (verdict (termsOf (siteIn b)) (siteIn b .sulphur) (siteIn b .nitrogen)) (drop (length (judgementNumbers (siteIn b))) old))
 
   -- the number 8 says that the judgement was written, and then the mark says whether the balances close
-  pub with-marks : {r : ℕ}
-      → (r ≡ codeIf (outputRule (valueCheck b) 8 (length old)) 8) × (new ≡ heldAfter (outputRule (valueCheck b) 8 (length old)) (judgementNumbers (siteIn b)) old)
-      → (r ≡ codeIf (outputRule (valueCheck b) 8 (length old)) 8)
-      × ((new ≡ heldAfter (outputRule (valueCheck b) 8 (length old)) (judgementNumbers (siteIn b)) old) × (r ≡ 8 → MarkSays (getD new 7 0) (siteIn b)))
-  with-marks x = (
-    x .0,
-    (
-      x .1,
-      λ e.
-          let passed = output-passed 8 (length old) (valueCheck b) (code-passed _ 8 (omega (arith, x .0))) in
-          rw (mark-is (x .1) (passed .0) (passed .1)) (mark-tells (siteIn b) (site-passes b (passed .0))),
-    ),
-  )
+  pub mark-says : {r : ℕ}
+      → r ≡ writtenCode (valueAnswer b 8 (length old)) → new ≡ heldAfter (outputRule (valueCheck b) 8 (length old)) (judgementNumbers (siteIn b)) old
+      → r ≡ 8 → MarkSays (getD new 7 0) (siteIn b)
+  mark-says a h e =
+      let passed = output-passed 8 (length old) (valueCheck b) (counted-passed _ 8 (count-below _ a (omega arith))) in
+      rw (mark-is h (passed .0) (passed .1)) (mark-tells (siteIn b) (value-passes b (passed .0)))
+
+  -- so it is promised beside the rest
+  pub with-mark : {r : ℕ} {A : Type 0}
+      → (r ≡ writtenCode (valueAnswer b 8 (length old))) × ((new ≡ heldAfter (outputRule (valueCheck b) 8 (length old)) (judgementNumbers (siteIn b)) old) × A)
+      → (r ≡ writtenCode (valueAnswer b 8 (length old)))
+      × ((new ≡ heldAfter (outputRule (valueCheck b) 8 (length old)) (judgementNumbers (siteIn b)) old) × (A × (r ≡ 8 → MarkSays (getD new 7 0) (siteIn b))))
+  with-mark x = (x .0, (x .1 .0, (x .1 .1, mark-says (x .0) (x .1 .0))))

@@ -1,4 +1,5 @@
--- A site value as 50 bytes, in the order of the site's values; numbers of two bytes have the high byte first.
+-- The calls on a site value: its 50 bytes, in the order of the site's values, numbers of two bytes with the high byte first; its check; and
+-- the numbers of its loads and of its judgement.
 use Prim.Native.Nat.{ℕ}
 use mathlib.Core.List.{List, [], _∷_, _++_}
 use lib.Dec.{eqb}
@@ -11,6 +12,8 @@ use Rattle.site.specs.declared.Site.{Site}
 use Rattle.site.specs.declared.Rule.the-variants.{BadLength}
 use Rattle.site.specs.declared.Checked.{Checked}
 use Rattle.site.specs.declared.Checked.the-variants.{Passed, Broken}
+use Rattle.output.specs.declared.Written.{Written}
+use Rattle.output.specs.Output.{outputRule, writeAnswer}
 use Rattle.loads.specs.SiteTerms.{termsOf}
 use Rattle.loads.specs.CriticalLoads.{maxS, minN, maxN, nutN}
 use Rattle.judgement.specs.declared.Verdict.{Verdict}
@@ -43,6 +46,10 @@ siteIn b = record {
 -- rule 7 for the length of the bytes, then the rules of the site
 unfoldable pub valueCheck : List ℕ → Checked
 valueCheck b = andThen (pick (eqb (length b) 50) Passed (Broken BadLength)) (siteRule (siteIn b))
+
+-- the answer where `needed` numbers are to stand in a slice of `room`
+abbrev pub valueAnswer : List ℕ → (needed room : ℕ) → Written
+valueAnswer b needed room = writeAnswer (outputRule (valueCheck b) needed room) needed
 
 unfoldable pub loadsNumbers : Site → List ℕ
 loadsNumbers s = maxS (termsOf s) ∷ minN (termsOf s) ∷ maxN (termsOf s) ∷ nutN (termsOf s) ∷ []

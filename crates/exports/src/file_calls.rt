@@ -7,39 +7,27 @@ ghost use Rattle.text.specs.TextAnswer.{textAnswer};
 ghost use Rattle.record.specs.File.{contents};
 ghost use Rattle.listing.specs.Reports.{listAnswer, listHeld, reportOf};
 ghost use Rattle.listing.specs.PrintedDemand3.{Demand3};
-ghost use Rattle.exports.specs.Codes.{codeBase, listedCode, Decodes};
-use crate::codes::refusal_code_at;
+ghost use Rattle.exports.specs.Codes.{codeBase, writtenCode, Decodes};
+use crate::codes::written_code;
 use listing::list;
 use listing::report;
-use text::Listed;
-
-fn listed_code(listed: Listed) -> u64
-    ensures { λ r. ⌜ r ≡ listedCode listed ⌝ }
-{
-    match listed {
-        Listed::Count(n) => n as u64,
-        Listed::Refused { rule, at } => refusal_code_at(rule, at),
-    }
-}
 
 #[no_mangle]
 pub extern "C" fn forest_list(file: &[u8], out: &mut [u8]) -> u64
-    ensures answer { λ r. ⌜ r ≡ listedCode (listAnswer (contents (now (file .entry))) (now (out .entry))) ⌝ }
+    ensures answer { λ r. ⌜ r ≡ writtenCode (listAnswer (contents (now (file .entry))) (now (out .entry))) ⌝ }
     ensures buffer { λ _. ⌜ now (out .exit) ≡ listHeld (contents (now (file .entry))) (now (out .entry)) ⌝ }
     ensures decoded { λ r. ⌜ Decodes (listAnswer (contents (now (file .entry))) (now (out .entry))) r ⌝ }
     ensures demand3 { λ r. ⌜ (r < codeBase → Demand3 (now (file .entry)) (take r (now (out .exit)))) ⌝ }
 {
-    let listed = list(file, out);
-    listed_code(listed)
+    written_code(list(file, out))
 }
 
 #[no_mangle]
 pub extern "C" fn forest_report(file: &[u8], out: &mut [u8]) -> u64
-    ensures answer { λ r. ⌜ r ≡ listedCode (textAnswer (reportOf (now (file .entry))) (now (out .entry))) ⌝ }
+    ensures answer { λ r. ⌜ r ≡ writtenCode (textAnswer (reportOf (now (file .entry))) (now (out .entry))) ⌝ }
     ensures buffer { λ _. ⌜ now (out .exit) ≡ held (reportOf (now (file .entry))) (now (out .entry)) ⌝ }
     ensures decoded { λ r. ⌜ Decodes (textAnswer (reportOf (now (file .entry))) (now (out .entry))) r ⌝ }
     ensures demand3 { λ r. ⌜ (r < codeBase → Demand3 (now (file .entry)) (take r (now (out .exit)))) ⌝ }
 {
-    let listed = report(file, out);
-    listed_code(listed)
+    written_code(report(file, out))
 }

@@ -2,12 +2,11 @@
 ghost use mathlib.Core.Path.{_≡_};
 ghost use Prim.Native.Nat.{_+_, _≤_};
 ghost use lib.ListN.{length, getD};
-ghost use Rattle.site.specs.declared.Checked.the-variants.{Passed};
 ghost use Rattle.judgement.specs.Balance.{MarkSays};
-ghost use Rattle.output.specs.Output.{outputRule, heldAfter};
+ghost use Rattle.output.specs.Output.{writeAnswer, outputRule, heldAfter};
 ghost use Rattle.output.specs.Writing.{Wrote};
-ghost use Rattle.exports.specs.Codes.{codeIf};
-ghost use Rattle.exports.specs.Layout.{siteIn, valueCheck, loadsNumbers, judgementNumbers, verdictMarked};
+ghost use Rattle.exports.specs.Codes.{writtenCode, Decodes};
+ghost use Rattle.exports.specs.Layout.{siteIn, valueCheck, valueAnswer, loadsNumbers, judgementNumbers, verdictMarked};
 use crate::codes::refusal_code;
 use crate::layout::site_in;
 use judgement::JudgementAnswer;
@@ -22,7 +21,8 @@ use site::check_site;
 
 #[no_mangle]
 pub extern "C" fn forest_check(site: &[u8]) -> u64
-    ensures { λ r. ⌜ r ≡ codeIf (valueCheck (now (site .entry))) 0 ⌝ }
+    ensures answer { λ r. ⌜ r ≡ writtenCode (writeAnswer (valueCheck (now (site .entry))) 0) ⌝ }
+    ensures decoded { λ r. ⌜ Decodes (writeAnswer (valueCheck (now (site .entry))) 0) r ⌝ }
 {
     if site.len() != 50 {
         return refusal_code(Rule::BadLength);
@@ -46,8 +46,9 @@ fn put_four(out: &mut [u64], at: usize, ns: [u64; 4])
 
 #[no_mangle]
 pub extern "C" fn forest_loads(site: &[u8], out: &mut [u64]) -> u64
-    ensures answer { λ r. ⌜ r ≡ codeIf (outputRule (valueCheck (now (site .entry))) 4 (length (now (out .entry)))) 4 ⌝ }
+    ensures answer { λ r. ⌜ r ≡ writtenCode (valueAnswer (now (site .entry)) 4 (length (now (out .entry)))) ⌝ }
     ensures buffer { λ _. ⌜ now (out .exit) ≡ heldAfter (outputRule (valueCheck (now (site .entry))) 4 (length (now (out .entry)))) (loadsNumbers (siteIn (now (site .entry)))) (now (out .entry)) ⌝ }
+    ensures decoded { λ r. ⌜ Decodes (valueAnswer (now (site .entry)) 4 (length (now (out .entry)))) r ⌝ }
 {
     if site.len() != 50 {
         return refusal_code(Rule::BadLength);
@@ -80,8 +81,9 @@ fn verdict_marked(v: Verdict) -> [u64; 4]
 
 #[no_mangle]
 pub extern "C" fn forest_judge(site: &[u8], out: &mut [u64]) -> u64
-    ensures answer { λ r. ⌜ r ≡ codeIf (outputRule (valueCheck (now (site .entry))) 8 (length (now (out .entry)))) 8 ⌝ }
+    ensures answer { λ r. ⌜ r ≡ writtenCode (valueAnswer (now (site .entry)) 8 (length (now (out .entry)))) ⌝ }
     ensures buffer { λ _. ⌜ now (out .exit) ≡ heldAfter (outputRule (valueCheck (now (site .entry))) 8 (length (now (out .entry)))) (judgementNumbers (siteIn (now (site .entry)))) (now (out .entry)) ⌝ }
+    ensures decoded { λ r. ⌜ Decodes (valueAnswer (now (site .entry)) 8 (length (now (out .entry)))) r ⌝ }
     ensures demand3 { λ r. ⌜ (r ≡ 8 → MarkSays (getD (now (out .exit)) 7 0) (siteIn (now (site .entry)))) ⌝ }
 {
     if site.len() != 50 {

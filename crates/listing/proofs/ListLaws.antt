@@ -8,14 +8,16 @@ use lib.Seq.{take-at}
 use Rattle.site.specs.declared.Site.{Site}
 use Rattle.site.specs.declared.Rule.{Rule}
 use Rattle.record.specs.declared.Outcome.the-variants.{Accepted, Refused as NotAccepted}
-use Rattle.text.specs.declared.Listed.{Listed}
-use Rattle.text.specs.declared.Listed.the-variants.{Count, Refused}
+use Rattle.output.specs.declared.Written.{Written}
+use Rattle.output.specs.declared.Written.the-variants.{Count, Refused}
 use Rattle.text.specs.TextLengths.{mostText}
 use Rattle.text.specs.Listing.{listing}
 use Rattle.text.specs.RefusalLine.{refusal}
-use Rattle.text.specs.TextAnswer.{listedNumbers, RoomEnough}
+use Rattle.output.specs.Output.{writtenNumbers}
+use Rattle.text.specs.TextAnswer.{RoomEnough}
 use Rattle.text.specs.Marks.{Marked}
-use Rattle.text.proofs.TextAnswers.{Answered, Clauses, clauses-then, by-clauses, by-clauses-then, count-is, refused-at-0, written}
+use Rattle.output.proofs.OutputLaws.{count-is, refused-at-0}
+use Rattle.text.proofs.TextAnswers.{Answered, Clauses, clauses-then, by-clauses, by-clauses-then, written}
 use Rattle.listing.specs.declared.Walked.{Walked}
 use Rattle.record.specs.Result.{good, fault}
 use Rattle.record.specs.File.{Contents, contents}
@@ -53,7 +55,7 @@ pub found-fault : {w : Walked} (c : Contents Site) {rule : Rule} {at : ℕ} → 
 found-fault c is e = walked-fault c (rw is at e)
 
 -- what a call has written of the rows, by the sites
-pub by-sites : {w : Walked} {c : Contents Site} (x : Filled w c) (d : List ℕ) {e : List ℕ} {r : Listed}
+pub by-sites : {w : Walked} {c : Contents Site} (x : Filled w c) (d : List ℕ) {e : List ℕ} {r : Written}
     → Clauses (listing (take (w .count) (w .rows))) d e r (RoomEnough (listing (take (w .count) (w .rows))) d r × Marked (take (w .count) (w .rows)) e r)
     → Answered (listing (map rowOf (x .ss))) d e r
 by-sites x d p = rw (← x .rows) (by-clauses-then p)
@@ -61,24 +63,24 @@ by-sites x d p = rw (← x .rows) (by-clauses-then p)
 -- ---- the listing
 
 -- the clauses of the call that lists
-abbrev ListClauses : List ℕ → List ℕ → List ℕ → Listed → Type 0
+abbrev ListClauses : List ℕ → List ℕ → List ℕ → Written → Type 0
 ListClauses f d e r =
-    (r ≡ listAnswer (contents f) d) × ((e ≡ listHeld (contents f) d) × ((listedNumbers r ≡ listNumbers (contents f) d) × (ListRoomEnough f d r × WrittenDemand3 f e r)))
+    (r ≡ listAnswer (contents f) d) × ((e ≡ listHeld (contents f) d) × ((writtenNumbers r ≡ listNumbers (contents f) d) × (ListRoomEnough f d r × WrittenDemand3 f e r)))
 
-written3 : (f d : List ℕ) {e : List ℕ} {r : Listed} (ss : List Site) → contents f ≡ good ss → Answered (listing (map rowOf ss)) d e r → WrittenDemand3 f e r
+written3 : (f d : List ℕ) {e : List ℕ} {r : Written} (ss : List Site) → contents f ≡ good ss → Answered (listing (map rowOf ss)) d e r → WrittenDemand3 f e r
 written3 f d {e} {r} ss h a n b ts g =
     let same : ss ≡ ts = cc in
     rw (written (listing (map rowOf ss)) d e r (a .answer) (a .buffer) n b, same) (listing-says f ts g)
 
-list-enough : (f d : List ℕ) {e : List ℕ} {r : Listed} (ss : List Site) → contents f ≡ good ss → Answered (listing (map rowOf ss)) d e r → ListRoomEnough f d r
+list-enough : (f d : List ℕ) {e : List ℕ} {r : Written} (ss : List Site) → contents f ≡ good ss → Answered (listing (map rowOf ss)) d e r → ListRoomEnough f d r
 list-enough f d ss h a ts g = let same : ss ≡ ts = cc in rw (← same) (a .enough)
 
-pub listed-sites : (f d : List ℕ) {e : List ℕ} {r : Listed} (ss : List Site) → contents f ≡ good ss → Answered (listing (map rowOf ss)) d e r → ListClauses f d e r
+pub listed-sites : (f d : List ℕ) {e : List ℕ} {r : Written} (ss : List Site) → contents f ≡ good ss → Answered (listing (map rowOf ss)) d e r → ListClauses f d e r
 unfolding listAnswer listHeld listNumbers
 listed-sites f d ss h a = (rw h (a .answer), (rw h (a .buffer), (rw h (a .numbers), (list-enough f d ss h a, written3 f d ss h a))))
 
 pub listed-fault : (f d : List ℕ) {rule : Rule} {at : ℕ} → contents f ≡ fault rule at → ListClauses f d d (Refused rule at)
-unfolding listAnswer listHeld listNumbers listedNumbers
+unfolding listAnswer listHeld listNumbers writtenNumbers
 listed-fault f d h = (rw h, (rw h, (rw h, (λ ss g. not-good (sym h ∙ g), λ n b. let z : _≡_ {A = ℕ} 0 1 = cc in absurd (omega arith)))))
 
 -- no listing is longer than the longest
@@ -87,7 +89,7 @@ unfolding listAnswer
 list-count f d {n} is most = by-contents (contents f) refl is
   where
     by-contents : (c : Contents Site) → contents f ≡ c → listAnswer c d ≡ Count n → n ≤ mostText
-    by-contents (good ss) q e = omega (arith, count-is (listing (map rowOf ss)) d _ refl n e, most ss q .bounded)
+    by-contents (good ss) q e = omega (arith, count-is _ _ e, most ss q .bounded)
     by-contents (fault k i) q e = let z : _≡_ {A = ℕ} 0 1 = cc in absurd (omega arith)
 
 -- no refusal lies past 500 records of the greatest length
@@ -96,22 +98,22 @@ unfolding listAnswer
 list-fault-near f d {rule} {at} e = by-contents (contents f) refl e
   where
     by-contents : (c : Contents Site) → contents f ≡ c → listAnswer c d ≡ Refused rule at → at ≤ mostRecord * mostRecords
-    by-contents (good ss) q e = omega (arith, refused-at-0 (listing (map rowOf ss)) d e)
+    by-contents (good ss) q e = omega (arith, refused-at-0 _ _ e)
     by-contents (fault k i) q e = let same : i ≡ at = cc in omega (arith, sites-fault-near f q)
 
 -- ---- the report
 
 -- the clauses of the call that reports
-abbrev pub Reported : List ℕ → List ℕ → List ℕ → Listed → Type 0
+abbrev pub Reported : List ℕ → List ℕ → List ℕ → Written → Type 0
 Reported f d e r = Clauses (reportOf f) d e r (RoomEnough (reportOf f) d r × WrittenDemand3 f e r)
 
-reported : (f d : List ℕ) {e : List ℕ} {r : Listed} → Answered (reportOf f) d e r → WrittenDemand3 f e r → Reported f d e r
+reported : (f d : List ℕ) {e : List ℕ} {r : Written} → Answered (reportOf f) d e r → WrittenDemand3 f e r → Reported f d e r
 reported f d a w = clauses-then a w
 
-pub reported-sites : (f d : List ℕ) {e : List ℕ} {r : Listed} (ss : List Site) → contents f ≡ good ss → Answered (listing (map rowOf ss)) d e r → Reported f d e r
+pub reported-sites : (f d : List ℕ) {e : List ℕ} {r : Written} (ss : List Site) → contents f ≡ good ss → Answered (listing (map rowOf ss)) d e r → Reported f d e r
 unfolding reportOf printed
 reported-sites f d ss h a = reported f d (rw h a) (written3 f d ss h a)
 
-pub reported-fault : (f d : List ℕ) {e : List ℕ} {r : Listed} {rule : Rule} {at : ℕ} → contents f ≡ fault rule at → Clauses (refusal rule at) d e r (RoomEnough (refusal rule at) d r) → Reported f d e r
+pub reported-fault : (f d : List ℕ) {e : List ℕ} {r : Written} {rule : Rule} {at : ℕ} → contents f ≡ fault rule at → Clauses (refusal rule at) d e r (RoomEnough (refusal rule at) d r) → Reported f d e r
 unfolding reportOf printed
 reported-fault f d h a = reported f d (rw h (by-clauses a)) (λ n b ss g. not-good (sym h ∙ g))

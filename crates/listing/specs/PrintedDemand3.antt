@@ -7,8 +7,8 @@ use Rattle.site.specs.declared.Site.{Site}
 use Rattle.judgement.specs.Balance.{Says}
 use Rattle.judgement.specs.Less.{Less, Stays}
 use Rattle.field.specs.Field.{blankSite}
-use Rattle.text.specs.declared.Listed.{Listed}
-use Rattle.text.specs.declared.Listed.the-variants.{Count}
+use Rattle.output.specs.declared.Written.{Written}
+use Rattle.output.specs.declared.Written.the-variants.{Count}
 use Rattle.text.specs.Listing.{headText}
 use Rattle.text.specs.Words.{split, lastWord, lineAt}
 use Rattle.record.specs.Result.{good}
@@ -27,7 +27,7 @@ abbrev pub Demand3 : List ℕ → List ℕ → Type 0
 Demand3 f t = (ss : List Site) → contents f ≡ good ss → LinesSay ss t
 
 -- the same of the text that a call has written into a buffer
-abbrev pub WrittenDemand3 : List ℕ → List ℕ → Listed → Type 0
+abbrev pub WrittenDemand3 : List ℕ → List ℕ → Written → Type 0
 WrittenDemand3 f out r = (n : ℕ) → r ≡ Count n → Demand3 f (take n out)
 
 -- Less deposition is never worse: record k of a file f and record l of a file g, files that the checks let pass; the two records are one site,

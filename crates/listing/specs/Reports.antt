@@ -3,8 +3,8 @@ use Prim.Native.Nat.{ℕ}
 use mathlib.Core.Path.{_≡_}
 use mathlib.Core.List.{List, map}
 use Rattle.site.specs.Refusal.{ruleNumber}
-use Rattle.text.specs.declared.Listed.{Listed}
-use Rattle.text.specs.declared.Listed.the-variants.{Refused}
+use Rattle.output.specs.declared.Written.{Written}
+use Rattle.output.specs.declared.Written.the-variants.{Refused}
 use Rattle.text.specs.Listing.{listing}
 use Rattle.text.specs.RefusalLine.{refusal}
 use Rattle.output.specs.Output.{held, heldNumbers}
@@ -15,7 +15,7 @@ use Rattle.record.specs.File.{Contents, contents}
 use Rattle.listing.specs.Rows.{rowOf}
 
 -- the listing of a file into d: the first fault, else 11 or how many bytes
-unfoldable pub listAnswer : Contents Site → List ℕ → Listed
+unfoldable pub listAnswer : Contents Site → List ℕ → Written
 listAnswer (good ss) d = textAnswer (listing (map rowOf ss)) d
 listAnswer (fault rule at) d = Refused rule at
 
@@ -28,7 +28,7 @@ listHeld (good ss) d = held (listing (map rowOf ss)) d
 listHeld (fault rule at) d = d
 
 -- where the checks let f pass, a buffer of mostText bytes is enough for its listing
-abbrev pub ListRoomEnough : List ℕ → List ℕ → Listed → Type 0
+abbrev pub ListRoomEnough : List ℕ → List ℕ → Written → Type 0
 ListRoomEnough f d r = (ss : List Site) → contents f ≡ good ss → RoomEnough (listing (map rowOf ss)) d r
 
 -- what the program prints: the listing, or the line of the refusal

@@ -1,26 +1,26 @@
 // The listing of a file into a lent buffer.
 ghost use mathlib.Core.Path.{_≡_};
-ghost use Rattle.text.specs.TextAnswer.{listedNumbers};
+ghost use Rattle.output.specs.Output.{writtenNumbers};
 ghost use Rattle.record.specs.File.{contents};
 ghost use Rattle.listing.specs.Reports.{listAnswer, listNumbers, listHeld, ListRoomEnough};
 ghost use Rattle.listing.specs.PrintedDemand3.{WrittenDemand3};
 use crate::walking::walk_file;
+use output::Written;
 use record::Outcome;
-use text::Listed;
 use text::put_listing;
 
 // Nothing is written before the last record is checked and the length is known to fit.
-pub fn list(file: &[u8], out: &mut [u8]) -> Listed
+pub fn list(file: &[u8], out: &mut [u8]) -> Written
     ensures answer { λ r. ⌜ r ≡ listAnswer (contents (now (file .entry))) (now (out .entry)) ⌝ }
     ensures buffer { λ _. ⌜ now (out .exit) ≡ listHeld (contents (now (file .entry))) (now (out .entry)) ⌝ }
-    ensures numbers { λ r. ⌜ listedNumbers r ≡ listNumbers (contents (now (file .entry))) (now (out .entry)) ⌝ }
+    ensures numbers { λ r. ⌜ writtenNumbers r ≡ listNumbers (contents (now (file .entry))) (now (out .entry)) ⌝ }
     ensures enough { λ r. ⌜ ListRoomEnough (now (file .entry)) (now (out .entry)) r ⌝ }
     ensures demand3 { λ r. ⌜ WrittenDemand3 (now (file .entry)) (now (out .exit)) r ⌝ }
 {
     let w = walk_file(file);
     let o = w.outcome;
     match o {
-        Outcome::Refused { rule, at } => Listed::Refused { rule, at },
+        Outcome::Refused { rule, at } => Written::Refused { rule, at },
         Outcome::Accepted => {
             let rows = w.rows;
             let n = w.count;

@@ -12,7 +12,26 @@ use Rattle.site.specs.declared.Checked.the-variants.{Passed, Broken}
 use Rattle.site.specs.declared.Checked.{Checked}
 use Rattle.site.specs.Choice.{pick}
 use Rattle.site.proofs.Passing.{pass-then, both-passed}
-use Rattle.output.specs.Output.{roomRule, outputRule}
+use Rattle.site.specs.ByCheck.{answerIf}
+use Rattle.output.specs.declared.Written.the-variants.{Count, Refused}
+use Rattle.output.specs.Output.{roomRule, outputRule, writeAnswer, writtenNumbers, outputNumbers}
+
+-- the answer says what the rule says
+pub answer-numbers : (c : Checked) (n : ℕ) → writtenNumbers (writeAnswer c n) ≡ outputNumbers c n
+unfolding writtenNumbers answerIf outputNumbers
+answer-numbers Passed n = refl
+answer-numbers (Broken r) n = refl
+
+-- its count is that of the output, and a refusal's offset is 0
+pub count-is : (c : Checked) (n : ℕ) {k : ℕ} → writeAnswer c n ≡ Count k → k ≡ n
+unfolding answerIf
+count-is Passed n e = cc
+count-is (Broken r) n e = let z : _≡_ {A = ℕ} 0 1 = cc in absurd (omega arith)
+
+pub refused-at-0 : (c : Checked) (n : ℕ) {rule : Rule} {at : ℕ} → writeAnswer c n ≡ Refused rule at → at ≡ 0
+unfolding answerIf
+refused-at-0 Passed n e = let z : _≡_ {A = ℕ} 0 1 = cc in absurd (omega arith)
+refused-at-0 (Broken r) n e = cc
 
 module _ (needed room : ℕ) where
   pub room-enough : needed ≤ room → roomRule needed room ≡ Passed

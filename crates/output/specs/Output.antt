@@ -8,6 +8,9 @@ use Rattle.site.specs.Refusal.{ruleNumber, andThen}
 use Rattle.site.specs.declared.Rule.the-variants.{BufferShort}
 use Rattle.site.specs.declared.Checked.{Checked}
 use Rattle.site.specs.declared.Checked.the-variants.{Passed, Broken}
+use Rattle.site.specs.ByCheck.{answerIf}
+use Rattle.output.specs.declared.Written.{Written}
+use Rattle.output.specs.declared.Written.the-variants.{Count, Refused}
 
 -- rule 11, where `needed` elements are to stand in a buffer of `room`
 unfoldable pub roomRule : (needed room : ℕ) → Checked
@@ -22,7 +25,16 @@ unfoldable pub heldAfter : {A : Type 0} → Checked → (xs old : List A) → Li
 heldAfter Passed xs old = xs ++ drop (length xs) old
 heldAfter (Broken r) xs old = old
 
--- number of the refusal, or 0; then how many elements were written, or the offset 0
+-- what is answered: how many elements were written, or the rule that is broken, at 0
+abbrev pub writeAnswer : Checked → ℕ → Written
+writeAnswer c n = answerIf Count (λ rule. Refused rule 0) c n
+
+-- an answer in 01's numbers: that of the refusal, or 0; then how many elements were written, or the offset
+unfoldable pub writtenNumbers : Written → ℕ × ℕ
+writtenNumbers (Count n) = (0, n)
+writtenNumbers (Refused rule at) = (ruleNumber rule, at)
+
+-- the same by what the output can break: the number, or 0; then the count, or the offset 0
 unfoldable pub outputNumbers : Checked → ℕ → ℕ × ℕ
 outputNumbers Passed n = (0, n)
 outputNumbers (Broken r) n = (ruleNumber r, 0)

@@ -2,7 +2,6 @@
 use Prim.Native.Nat.{ℕ, _+_, _≤_, _<_}
 use mathlib.Core.Path.{_≡_, refl, sym, _∙_}
 use mathlib.Core.Bool.{Bool, true, false, true≢false}
-use mathlib.Core.List.{List, [], _∷_, _++_}
 use native.Mathlib.Omega.{arith}
 use borrow.Author.Tests.{ltb-true, eqb-false, lt-ltb, le-ltb, eq-eqb, ne-eqb}
 use lib.Dec.{T, ltb, eqb}
@@ -11,10 +10,9 @@ use lib.Signed.{ltZ, nonNeg, natAbs-le}
 use mir.Syntax.{w64}
 use mir.Val.{SFits, Fits}
 use Rattle.site.specs.Choice.{pick}
-use Rattle.program.specs.declared.Input.{Input}
 use Rattle.program.specs.declared.ReadState.{ReadState}
 use Rattle.program.specs.declared.ReadState.the-variants.{More, Ended, Failed}
-use Rattle.program.specs.Reads.{afterRead, onward, afterReads, ReadAll}
+use Rattle.program.specs.Reads.{afterRead}
 
 -- ---- a signed number that is not below 0
 
@@ -65,25 +63,7 @@ module _ (size done : ℕ) where
       unfolding afterRead
       full l m = rw (given, by-number (natAbs z) l, le-ltb (done + natAbs z) size (omega arith), eq-eqb (done + natAbs z) size m)
 
--- ---- one read after another
-
--- numbers that reads may have given up to here
-pub record Reached (size : ℕ) (r : ReadState) : Type 0 where
-  pub numbers : List ℤ
-  pub reached : r ≡ afterReads size (More 0) numbers
-
-pub none-yet : (size : ℕ) → Reached size (More 0)
-unfolding afterReads
-none-yet size = record { numbers = []; reached = refl }
-
-one-more : (size : ℕ) (r : ReadState) (xs : List ℤ) (g : ℤ) → afterReads size r (xs ++ (g ∷ [])) ≡ onward size (afterReads size r xs) g
-unfolding afterReads
-one-more size r [] g = refl
-one-more size r (x ∷ xs) g = one-more size (onward size r x) xs g
-
-pub reached-next : {r : ReadState} (size done : ℕ) (g : ℤ) → Reached size (More done) → r ≡ afterRead size done g → Reached size r
-unfolding onward
-reached-next size done g x e = record { numbers = x .numbers ++ (g ∷ []); reached = e ∙ rw (one-more size (More 0) (x .numbers) g, ← x .reached) }
+-- ---- what a read leaves
 
 -- by the cases of `afterRead`
 by-read : (size done : ℕ) (g : ℤ) (P : ReadState → Type 0)
@@ -112,13 +92,3 @@ more-is-later size done n g =
     (λ e. let z : _≡_ {A = ℕ} 0 1 = cc in absurd (omega arith))
     (λ k h l e. let q : done + k ≡ n = cc in (omega arith, omega arith))
     (λ e. let z : _≡_ {A = ℕ} 0 1 = cc in absurd (omega arith))
-
-pub all-read : (size done : ℕ) (i : Input) → Reached size (More done)
-    → i .reading ≡ afterRead size done (i .last) → ((n : ℕ) → i .reading ≡ More n → ⊥) → ReadAll size i
-all-read size done i x e s = record {
-  numbers = x .numbers;
-  done = done;
-  reached = sym (x .reached);
-  next = e;
-  stopped = s;
-}

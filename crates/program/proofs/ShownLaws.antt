@@ -8,8 +8,8 @@ use Rattle.site.specs.ByCheck.{answerIf}
 use Rattle.site.specs.declared.Rule.{Rule}
 use Rattle.site.specs.declared.Checked.{Checked}
 use Rattle.site.specs.declared.Checked.the-variants.{Passed, Broken}
-use Rattle.text.specs.declared.Listed.{Listed}
-use Rattle.text.specs.declared.Listed.the-variants.{Count, Refused}
+use Rattle.output.specs.declared.Written.{Written}
+use Rattle.output.specs.declared.Written.the-variants.{Count, Refused}
 use Rattle.text.specs.TextLengths.{mostText}
 use Rattle.output.specs.Output.{roomRule, heldAfter, outputCount, held}
 use Rattle.output.proofs.OutputLaws.{room-missing}
@@ -22,7 +22,7 @@ Shown text d e k =
     ((k ≤ length e) × (k ≡ length (take k e)))
     × ((k ≡ shownLength text d) × ((e ≡ held text d) × (mostText ≤ length d → take k e ≡ text)))
 
-pub shown-some : (text d : List ℕ) {e : List ℕ} {r : Listed} (k : ℕ) → r ≡ Count k → Answered text d e r → Shown text d e k
+pub shown-some : (text d : List ℕ) {e : List ℕ} {r : Written} (k : ℕ) → r ≡ Count k → Answered text d e r → Shown text d e k
 unfolding answerIf heldAfter outputCount
 shown-some text d {e} {r} k b a = go (roomRule (length text) (length d)) refl
   where
@@ -40,7 +40,7 @@ shown-some text d {e} {r} k b a = go (roomRule (length text) (length d)) refl
         let z : _≡_ {A = ℕ} 0 1 = cc in
         absurd (omega arith)
 
-pub shown-none : (text d : List ℕ) {e : List ℕ} {r : Listed} {rule : Rule} {at : ℕ} → r ≡ Refused rule at → Answered text d e r → Shown text d e 0
+pub shown-none : (text d : List ℕ) {e : List ℕ} {r : Written} {rule : Rule} {at : ℕ} → r ≡ Refused rule at → Answered text d e r → Shown text d e 0
 unfolding answerIf heldAfter outputCount
 shown-none text d {e} {r} b a = go (roomRule (length text) (length d)) refl
   where

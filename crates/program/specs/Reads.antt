@@ -1,7 +1,8 @@
 -- Reading a file into a buffer.
-use Prim.Native.Nat.{ℕ, _+_}
+use Prim.Native.Nat.{ℕ, _+_, _<_}
 use mathlib.Core.Path.{_≡_}
-use mathlib.Core.List.{List, [], _∷_}
+use mathlib.Core.Logic.{_⊎_}
+use mathlib.Core.List.{List}
 use lib.Dec.{ltb, eqb}
 use lib.IntN.{ℤ, pos, negsuc}
 use lib.ListN.{length, take}
@@ -19,27 +20,15 @@ afterRead size done (pos k) =
     (pick (ltb (done + k) size) (More (done + k))
     (pick (eqb (done + k) size) (Ended size) Failed))
 
--- the reads go on only while there is more
-unfoldable pub onward : (size : ℕ) → ReadState → ℤ → ReadState
-onward size (More done) got = afterRead size done got
-onward size (Ended n) got = Ended n
-onward size Failed got = Failed
-
--- where reads lead that gave these numbers, in this order
-unfoldable pub afterReads : (size : ℕ) → ReadState → List ℤ → ReadState
-afterReads size r [] = r
-afterReads size r (got ∷ rest) = afterReads size (onward size r got) rest
-
 -- One read: no byte that was there before is altered, and the number that the read gave decides what follows.
 pub record ReadOnce (before after : List ℕ) (done : ℕ) (i : Input) : Type 0 where
   pub kept : take done after ≡ take done before
   pub next : i .reading ≡ afterRead (length before) done (i .last)
 
--- The reads into an empty buffer. There are numbers, not said to be those that the reads gave, that lead to `More done`; the number `last` then
--- decides, and does not leave more to come.
+-- All reads into a buffer of `size`. Where the last one starts, `done` bytes are there: none, or fewer than the buffer takes. The number that
+-- it gave decides, and does not leave more to come. Which numbers the reads before it gave, and which bytes, no contract can name.
 pub record ReadAll (size : ℕ) (i : Input) : Type 0 where
-  pub numbers : List ℤ
   pub done : ℕ
-  pub reached : afterReads size (More 0) numbers ≡ More done
+  pub room : (done ≡ 0) ⊎ (done < size)
   pub next : i .reading ≡ afterRead size done (i .last)
   pub stopped : (n : ℕ) → i .reading ≡ More n → ⊥

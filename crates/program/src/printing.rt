@@ -11,7 +11,7 @@ ghost use Rattle.text.specs.TextLengths.{mostText};
 ghost use Rattle.output.specs.Output.{held};
 use crate::ReadState;
 use listing::report;
-use text::Listed;
+use output::Written;
 
 fn least(a: usize, b: usize) -> usize
     ensures { λ r. ⌜ (r ≡ min a b) × (r ≤ b) ⌝ }
@@ -28,8 +28,8 @@ fn shown(file: &[u8], out: &mut [u8]) -> usize
 {
     let r = report(file, out);
     match r {
-        Listed::Count(k) => k,
-        Listed::Refused { rule: _, at: _ } => 0,
+        Written::Count(k) => k,
+        Written::Refused { rule: _, at: _ } => 0,
     }
 }
 

@@ -16,7 +16,7 @@ use Rattle.field.specs.Field.{siteKind}
 use Rattle.record.specs.Records.{mostRecord, recordIn}
 use Rattle.record.specs.Outer.{outcomeNumbers, siteTag, siteKinds, siteAt, foundOf, recordAt}
 use Rattle.field.specs.Clean.{clean, Sized, AllBytes}
-use Rattle.record.specs.Writer.{encode}
+use Rattle.record.specs.Writer.{encode, WritesAgain}
 use Rattle.record.proofs.EncodeLaws.{fields-small}
 use Rattle.record.proofs.ResultLaws.{found-numbers}
 use Rattle.record.proofs.OuterLaws.{site-past}
@@ -98,8 +98,8 @@ module _ (f : List ℕ) (at : ℕ) where
       → (x ≡ recordAt f at)
       × ((outcomeNumbers (x .outcome) ≡ resultNumbers (siteAt f at))
       × ((length f ≤ at → outcomeNumbers (x .outcome) ≡ (2, at))
-      × (x .outcome ≡ Accepted → encode (x .site) ≡ take (x .next - at) (drop at f))))
+      × (x .outcome ≡ Accepted → WritesAgain (x .site) (take (x .next - at) (drop at f)))))
   unfolding recordAt resultNumbers
   found-answers x b e =
       let numbers : outcomeNumbers (x .outcome) ≡ resultNumbers (siteAt f at) = ap (λ (z : Found). outcomeNumbers (z .outcome)) e ∙ found-numbers at (siteAt f at) in
-      (e, (numbers, (λ past. numbers ∙ rw (site-past f at past), λ o. rw e (site-bytes f at (record-good (rw e at o)) b))))
+      (e, (numbers, (λ past. numbers ∙ rw (site-past f at past), λ o. rw e (let g = record-good (rw e at o) in record { passes = site-passes f at g; bytes = site-bytes f at g b }))))

@@ -13,16 +13,16 @@ use Rattle.site.specs.declared.Checked.{Checked}
 use Rattle.site.specs.declared.Checked.the-variants.{Passed, Broken}
 use Rattle.site.specs.Check.{siteRule}
 use Rattle.site.proofs.Passing.{both-passed}
-use Rattle.record.specs.declared.Written.{Written}
-use Rattle.record.specs.declared.Written.the-variants.{Count, Refused}
+use Rattle.output.specs.declared.Written.{Written}
+use Rattle.output.specs.declared.Written.the-variants.{Count, Refused}
 use Rattle.record.specs.ReadAnswers.{accepted}
 use Rattle.record.specs.Outer.{readRecord}
 use Rattle.field.specs.Clean.{clean, Sized}
-use Rattle.record.specs.Writer.{encode, writeRule, writeAnswer, writtenNumbers}
-use Rattle.output.specs.Output.{outputRule, heldAfter, outputNumbers}
+use Rattle.record.specs.Writer.{encode, writeRule}
+use Rattle.output.specs.Output.{outputRule, heldAfter, writeAnswer, writtenNumbers, outputNumbers}
 use Rattle.output.specs.Writing.{Wrote}
 use Rattle.output.proofs.WritingLaws.{in-front}
-use Rattle.output.proofs.OutputLaws.{output-broken, output-short, output-whole}
+use Rattle.output.proofs.OutputLaws.{answer-numbers, output-broken, output-short, output-whole}
 use Rattle.record.proofs.RoundTrip.{read-written}
 
 module _ (s : Site) (z : Sized s) (old : List ℕ) where
@@ -44,25 +44,20 @@ module _ (s : Site) (z : Sized s) (old : List ℕ) where
       rw (take-at (encode s) (drop (length (encode s)) old) n l) (read-written s z (both-passed _ _ e .0))
   read-again (Broken r) e n w = let q : _≡_ {A = ℕ} 0 1 = cc in absurd (omega arith)
 
-  numbers-of : (c : Checked) (n : ℕ) → writtenNumbers (writeAnswer c n) ≡ outputNumbers c n
-  unfolding writtenNumbers answerIf outputNumbers
-  numbers-of Passed n = refl
-  numbers-of (Broken r) n = refl
-
   promised : (w : Written) (new : List ℕ) → w ≡ writeAnswer rule (length (encode s)) → new ≡ heldAfter rule (encode s) old → Promises w new
-  promised w new a e = (a, (e, (ap writtenNumbers a ∙ numbers-of rule (length (encode s)), λ n q. rw e (read-again rule refl n (sym a ∙ q)))))
+  promised w new a e = (a, (e, (ap writtenNumbers a ∙ answer-numbers rule (length (encode s)), λ n q. rw e (read-again rule refl n (sym a ∙ q)))))
 
-  pub write-broken : (r : Rule) → siteRule s ≡ Broken r → Promises (Refused r) old
+  pub write-broken : (r : Rule) → siteRule s ≡ Broken r → Promises (Refused r 0) old
   unfolding answerIf heldAfter
   write-broken r e =
       let q : rule ≡ Broken r = output-broken _ _ (siteRule s) r e in
-      promised (Refused r) old (rw q) (rw q)
+      promised (Refused r 0) old (rw q) (rw q)
 
-  pub write-short : siteRule s ≡ Passed → length old < length (encode s) → Promises (Refused BufferShort) old
+  pub write-short : siteRule s ≡ Passed → length old < length (encode s) → Promises (Refused BufferShort 0) old
   unfolding answerIf heldAfter
   write-short e h =
       let q : rule ≡ Broken BufferShort = output-short _ _ (siteRule s) e h in
-      promised (Refused BufferShort) old (rw q) (rw q)
+      promised (Refused BufferShort 0) old (rw q) (rw q)
 
   pub write-whole : {n : ℕ} {new : List ℕ} → siteRule s ≡ Passed → length (encode s) ≤ length old → Wrote old 0 (encode s) new n → Promises (Count n) new
   unfolding answerIf heldAfter

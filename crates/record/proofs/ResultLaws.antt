@@ -53,6 +53,11 @@ pub read-fault : {q : Result Site} {r : Rule} {at : ℕ} → q ≡ fault r at �
 unfolding readOf
 read-fault e = rw e
 
+pub refused-fault : (q : Result Site) {r : Rule} {at : ℕ} → readOf q .outcome ≡ Refused r at → q ≡ fault r at
+unfolding readOf accepted refusedAt
+refused-fault (good s) e = let z : _≡_ {A = ℕ} 0 1 = cc in absurd (omega arith)
+refused-fault (fault k i) e = cc
+
 pub accepted-good : (q : Result Site) {s : Site} → readOf q ≡ accepted s → q ≡ good s
 unfolding readOf accepted refusedAt
 accepted-good (good x) {s} e = ap good (ap (λ (r : Read). r .site) e)

@@ -22,11 +22,12 @@ use Rattle.record.specs.Result.{Result, good, fault, resultNumbers}
 use Rattle.record.specs.ReadAnswers.{accepted, refusedAt, readOf}
 use Rattle.record.specs.Records.{mostRecord, recordIn, onlyOne, single}
 use Rattle.record.specs.Outer.{outcomeNumbers, siteTag, siteKinds, siteAt, onlySite, readRecord}
-use Rattle.record.specs.Writer.{encode}
+use Rattle.record.specs.Writer.{encode, WritesAgain}
 use Rattle.record.proofs.EncodeLaws.{length-encode}
-use Rattle.record.proofs.ResultLaws.{read-good, accepted-good, read-numbers}
+use Rattle.record.proofs.ResultLaws.{read-good, accepted-good, refused-fault, read-numbers}
 use Rattle.record.proofs.RecordLaws.{single-good, good-single}
-use Rattle.record.proofs.Place.{site-near, site-fault-near, site-passes, site-clean, site-bytes, site-read}
+use Rattle.record.proofs.Place.{site-near, site-passes, site-clean, site-bytes, site-read}
+use Rattle.record.proofs.SiteFile.{single-fault-near}
 
 -- ---- what is written is read
 
@@ -54,12 +55,15 @@ module _ (s : Site) (f : List ℕ) (e : readRecord f ≡ accepted s) where
   pub read-clean : clean s ≡ s
   read-clean = site-clean f 0 found-first
 
-  -- an accepted record is written again byte for byte
-  pub written-read : AllBytes f → encode s ≡ f
+  written-read : AllBytes f → encode s ≡ f
   written-read b =
       let n : length f - 0 ≡ length f = omega arith in
       let t : take (length f) f ≡ f = take-all (length f) f (omega arith) in
       rw n at (site-bytes f 0 found-first b) ∙ t
+
+  -- an accepted record is written again byte for byte
+  pub writes-again : AllBytes f → WritesAgain s f
+  writes-again b = record { passes = read-passes; bytes = written-read b }
 
 -- two different records never read to one site
 pub read-injective : (s : Site) (f g : List ℕ) → AllBytes f → AllBytes g → readRecord f ≡ accepted s → readRecord g ≡ accepted s → f ≡ g
@@ -79,23 +83,11 @@ pub read-short : (f : List ℕ) → readRecord f .outcome ≡ Accepted → lengt
 read-short f o = let e = accepted-is (readRecord f) o in omega (arith, site-near f 0 (found-first (readRecord f .site) f e))
 
 pub read-fault-near : (f : List ℕ) {rule : Rule} {at : ℕ} → readRecord f .outcome ≡ Refused rule at → at ≤ mostRecord
-unfolding readRecord readOf accepted refusedAt single onlyOne
-read-fault-near f {rule} {at} o = by-length (eqb (length f) 0) o
-  where
-    by-end : (x : Site × ℕ) → siteAt f 0 ≡ good x → (b : Bool) → readOf (pick b (good (x .0)) (fault TooMany (x .1))) .outcome ≡ Refused rule at → at ≤ mostRecord
-    by-end x r true o = let z : _≡_ {A = ℕ} 0 1 = cc in absurd (omega arith)
-    by-end x r false o = let same : x .1 ≡ at = cc in omega (arith, site-near f 0 r)
-
-    by-record : (q : Result (Site × ℕ)) → siteAt f 0 ≡ q → readOf (onlyOne (length f) q) .outcome ≡ Refused rule at → at ≤ mostRecord
-    by-record (good x) r o = by-end x r (eqb (x .1) (length f)) o
-    by-record (fault k i) r o = let same : i ≡ at = cc in omega (arith, site-fault-near f 0 r)
-
-    by-length : (b : Bool) → readOf (pick b (fault NoBytes 0) (onlyOne (length f) (siteAt f 0))) .outcome ≡ Refused rule at → at ≤ mostRecord
-    by-length true o = let same : 0 ≡ at = cc in omega arith
-    by-length false o = by-record (siteAt f 0) refl o
+unfolding readRecord
+read-fault-near f o = single-fault-near f (refused-fault (onlySite f) o)
 
 pub answered : (f : List ℕ) (r : Read) → AllBytes f → r ≡ readRecord f
-    → (r ≡ readRecord f) × ((outcomeNumbers (r .outcome) ≡ resultNumbers (onlySite f)) × (r .outcome ≡ Accepted → encode (r .site) ≡ f))
+    → (r ≡ readRecord f) × ((outcomeNumbers (r .outcome) ≡ resultNumbers (onlySite f)) × (r .outcome ≡ Accepted → WritesAgain (r .site) f))
 unfolding readRecord
 answered f r b e =
-    (e, (ap (λ (x : Read). outcomeNumbers (x .outcome)) e ∙ read-numbers (onlySite f), λ o. written-read (r .site) f (sym e ∙ accepted-is r o) b))
+    (e, (ap (λ (x : Read). outcomeNumbers (x .outcome)) e ∙ read-numbers (onlySite f), λ o. writes-again (r .site) f (sym e ∙ accepted-is r o) b))

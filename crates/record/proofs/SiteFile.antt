@@ -60,6 +60,12 @@ module _ (f : List ℕ) where
   unfolding contents
   sites-fault-near e = file-fault-near (siteAt f) mostRecord (λ at x r. site-near f at r) (λ at rule i r. site-fault-near f at r) (length f) mostRecords e
 
+  -- and of a single record at most one of the greatest length
+  pub single-fault-near : {rule : Rule} {at : ℕ} → onlySite f ≡ fault rule at → at ≤ mostRecord
+  unfolding alone
+  single-fault-near e =
+      omega (arith, file-fault-near (siteAt f) mostRecord (λ at x r. site-near f at r) (λ at rule i r. site-fault-near f at r) (length f) 1 (single-is ∙ ap alone e))
+
   -- the sites of a file that passes: at most 500, and each passes the check
   pub sites-checked : (ss : List Site) → contents f ≡ good ss → (length ss ≤ mostRecords) × All (λ s. siteRule s ≡ Passed) ss
   unfolding contents

@@ -1,15 +1,13 @@
--- The bytes of a site's record, and what a call answers that writes them.
+-- The bytes of a site's record, and what a write of them can break.
 use Prim.Native.Nat.{ℕ}
+use mathlib.Core.Path.{_≡_}
 use mathlib.Core.List.{List}
 use lib.ListN.{length}
 use Rattle.site.specs.declared.Site.{Site}
 use Rattle.site.specs.declared.Checked.{Checked}
-use Rattle.site.specs.Refusal.{ruleNumber}
+use Rattle.site.specs.declared.Checked.the-variants.{Passed}
 use Rattle.site.specs.Check.{siteRule}
-use Rattle.site.specs.ByCheck.{answerIf}
 use Rattle.output.specs.Output.{outputRule}
-use Rattle.record.specs.declared.Written.{Written}
-use Rattle.record.specs.declared.Written.the-variants.{Count, Refused}
 use Rattle.record.specs.Fields.{encodeAs}
 use Rattle.field.specs.Field.{siteKind}
 
@@ -21,11 +19,7 @@ encode s = encodeAs siteKind s
 abbrev pub writeRule : Site → ℕ → Checked
 writeRule s room = outputRule (siteRule s) (length (encode s)) room
 
--- how many bytes were written, or the rule that is broken
-abbrev pub writeAnswer : Checked → ℕ → Written
-writeAnswer c n = answerIf Count Refused c n
-
--- number of the refusal, or 0; then how many bytes were written, or the offset 0
-unfoldable pub writtenNumbers : Written → ℕ × ℕ
-writtenNumbers (Count n) = (0, n)
-writtenNumbers (Refused r) = (ruleNumber r, 0)
+-- s passes the check, so that the writer takes it, and its record is the bytes bs
+pub record WritesAgain (s : Site) (bs : List ℕ) : Type 0 where
+  pub passes : siteRule s ≡ Passed
+  pub bytes : encode s ≡ bs

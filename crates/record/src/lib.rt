@@ -33,9 +33,3 @@ pub struct Found {
     pub site: Site,
     pub next: usize,
 }
-
-// What came of a write: how many bytes it wrote, or the rule that is broken.
-pub enum Written {
-    Count(usize),
-    Refused(Rule),
-}

@@ -7,7 +7,7 @@ ghost use Rattle.record.specs.Outer.{outcomeNumbers, siteTag, siteAt, fo
 ghost use Rattle.record.specs.ReadAnswers.{readOf};
 ghost use Rattle.record.specs.Records.{outerRule, ending, onlyOne};
 ghost use Rattle.record.specs.Result.{Result, resultNumbers};
-ghost use Rattle.record.specs.Writer.{encode};
+ghost use Rattle.record.specs.Writer.{WritesAgain};
 use crate::Found;
 use crate::Outcome;
 use crate::Read;
@@ -73,7 +73,7 @@ pub fn read_at(file: &[u8], at: usize) -> Found
     ensures answer { λ r. ⌜ r ≡ recordAt (now (file .entry)) at ⌝ }
     ensures numbers { λ r. ⌜ outcomeNumbers (r .outcome) ≡ resultNumbers (siteAt (now (file .entry)) at) ⌝ }
     ensures nothing_there { λ r. ⌜ (length (now (file .entry)) ≤ at → outcomeNumbers (r .outcome) ≡ (2, at)) ⌝ }
-    ensures written_again { λ r. ⌜ (r .outcome ≡ Outcome.Accepted → encode (r .site) ≡ take (r .next - at) (drop at (now (file .entry)))) ⌝ }
+    ensures written_again { λ r. ⌜ (r .outcome ≡ Outcome.Accepted → WritesAgain (r .site) (take (r .next - at) (drop at (now (file .entry))))) ⌝ }
 {
     match outer_rule(file, at) {
         Checked::Broken(rule) => {
@@ -106,7 +106,7 @@ fn only_one(x: Found, n: usize) -> Read
 pub fn read_record(file: &[u8]) -> Read
     ensures answer { λ r. ⌜ r ≡ readRecord (now (file .entry)) ⌝ }
     ensures numbers { λ r. ⌜ outcomeNumbers (r .outcome) ≡ resultNumbers (onlySite (now (file .entry))) ⌝ }
-    ensures written_again { λ r. ⌜ (r .outcome ≡ Outcome.Accepted → encode (r .site) ≡ now (file .entry)) ⌝ }
+    ensures written_again { λ r. ⌜ (r .outcome ≡ Outcome.Accepted → WritesAgain (r .site) (now (file .entry))) ⌝ }
 {
     if file.len() == 0 {
         return refused_read(Rule::NoBytes, 0);

@@ -2,15 +2,15 @@
 ghost use mathlib.Core.Path.{_≡_};
 ghost use Prim.Native.Nat.{ℕ, _+_, _*_, _≤_};
 ghost use lib.ListN.{length, take};
-ghost use Rattle.output.specs.Output.{heldAfter, outputNumbers};
+ghost use Rattle.output.specs.Output.{writeAnswer, writtenNumbers, heldAfter, outputNumbers};
 ghost use Rattle.output.specs.Writing.{Wrote};
 ghost use Rattle.record.specs.Outer.{readRecord};
 ghost use Rattle.record.specs.ReadAnswers.{accepted};
 ghost use Rattle.field.specs.Clean.{clean};
-ghost use Rattle.record.specs.Writer.{encode, writeRule, writeAnswer, writtenNumbers};
-use crate::Written;
+ghost use Rattle.record.specs.Writer.{encode, writeRule};
 use crate::put::put_fields;
 use crate::put::put_head;
+use output::Written;
 use site::Checked;
 use site::Rule;
 use site::Site;
@@ -42,13 +42,14 @@ pub fn write_record(site: Site, buf: &mut [u8]) -> Written
 {
     match check_site(site) {
         Checked::Broken(rule) => {
-            return Written::Refused(rule);
+            return Written::Refused { rule, at: 0 };
         }
         Checked::Passed => {}
     }
     let body = body_len(site.name_len, site.entries);
     if buf.len() < 3 + body {
-        return Written::Refused(Rule::BufferShort);
+        let rule = Rule::BufferShort;
+        return Written::Refused { rule, at: 0 };
     }
     let end = put_record(buf, 0, site, body);
     Written::Count(end)

@@ -9,7 +9,7 @@ use lib.ListN.{length, getD}
 use Rattle.judgement.specs.declared.Verdict.{Verdict}
 use Rattle.judgement.specs.declared.Verdict.the-variants.{Within, Over}
 use Rattle.text.specs.declared.Row.{Row}
-use Rattle.text.specs.declared.Listed.{Listed}
+use Rattle.output.specs.declared.Written.{Written}
 use Rattle.text.specs.TextAnswer.{RoomEnough}
 use Rattle.text.specs.Decimal.{decimal}
 use Rattle.output.specs.Writing.{each}
@@ -101,10 +101,10 @@ pub mark-of : (rs : List Row) (k : ℕ) → Plain rs → k < length rs → lastW
 mark-of rs k h l = ap lastWord (line-of rs k h l) ∙ body-mark (getD rs k blankRow)
 
 -- the same of what a call has written
-pub marked : (rs : List Row) (d e : List ℕ) (r : Listed) → Answered (listing rs) d e r → Marked rs e r
+pub marked : (rs : List Row) (d e : List ℕ) (r : Written) → Answered (listing rs) d e r → Marked rs e r
 marked rs d e r a n k b p l = rw (written (listing rs) d e r (a .answer) (a .buffer) n b) (mark-of rs k p l)
 
 -- the clauses of a call that lists
-pub and-marked : (rs : List Row) (d : List ℕ) {e : List ℕ} {r : Listed} → Answered (listing rs) d e r
+pub and-marked : (rs : List Row) (d : List ℕ) {e : List ℕ} {r : Written} → Answered (listing rs) d e r
     → Clauses (listing rs) d e r (RoomEnough (listing rs) d r × Marked rs e r)
 and-marked rs d {e} {r} a = clauses-then a (marked rs d e r a)

@@ -11,26 +11,26 @@ use Rattle.site.specs.declared.Rule.the-variants.{BufferShort}
 use Rattle.site.specs.declared.Checked.{Checked}
 use Rattle.site.specs.declared.Checked.the-variants.{Passed, Broken}
 use Rattle.output.specs.Writing.{Wrote}
-use Rattle.output.specs.Output.{roomRule, heldAfter, outputNumbers, held, heldNumbers}
+use Rattle.output.specs.Output.{roomRule, heldAfter, writeAnswer, writtenNumbers, outputNumbers, held, heldNumbers}
 use Rattle.output.proofs.WritingLaws.{in-front}
 use Rattle.output.proofs.OutputLaws.{room-enough, room-short}
-use Rattle.text.specs.declared.Listed.{Listed}
-use Rattle.text.specs.declared.Listed.the-variants.{Count, Refused}
-use Rattle.text.specs.TextAnswer.{listedNumbers, textAnswer, RoomEnough}
+use Rattle.output.specs.declared.Written.{Written}
+use Rattle.output.specs.declared.Written.the-variants.{Count, Refused}
+use Rattle.text.specs.TextAnswer.{textAnswer, RoomEnough}
 use Rattle.text.specs.TextLengths.{mostText}
 
 -- the promises of a call that writes text into a lent buffer, which held d and then holds e
-pub record Answered (text d e : List ℕ) (r : Listed) : Type 0 where
+pub record Answered (text d e : List ℕ) (r : Written) : Type 0 where
   pub answer : r ≡ textAnswer text d
   pub buffer : e ≡ held text d
-  pub numbers : listedNumbers r ≡ heldNumbers text d
+  pub numbers : writtenNumbers r ≡ heldNumbers text d
   pub enough : RoomEnough text d r
 
 -- the same as clauses of its contract, the last with what follows them
-abbrev pub Clauses : (text d e : List ℕ) → Listed → Type 0 → Type 0
-Clauses text d e r Last = (r ≡ textAnswer text d) × ((e ≡ held text d) × ((listedNumbers r ≡ heldNumbers text d) × Last))
+abbrev pub Clauses : (text d e : List ℕ) → Written → Type 0 → Type 0
+Clauses text d e r Last = (r ≡ textAnswer text d) × ((e ≡ held text d) × ((writtenNumbers r ≡ heldNumbers text d) × Last))
 
-module _ {text d e : List ℕ} {r : Listed} where
+module _ {text d e : List ℕ} {r : Written} where
   pub as-clauses : Answered text d e r → Clauses text d e r (RoomEnough text d r)
   as-clauses a = (a .answer, (a .buffer, (a .numbers, a .enough)))
 
@@ -44,13 +44,13 @@ module _ {text d e : List ℕ} {r : Listed} where
   by-clauses-then c = record { answer = c .0; buffer = c .1 .0; numbers = c .1 .1 .0; enough = c .1 .1 .1 .0 }
 
 pub text-refused : (text d : List ℕ) → length d < length text → length text ≤ mostText → Answered text d d (Refused BufferShort 0)
-unfolding listedNumbers answerIf heldAfter outputNumbers
+unfolding writtenNumbers answerIf heldAfter outputNumbers
 text-refused text d h l =
     let short = room-short (length text) (length d) h in
     record { answer = rw short; buffer = rw short; numbers = rw short; enough = record { bounded = l; fits = λ m. absurd (omega arith) } }
 
 pub text-printed : {d e : List ℕ} {r : ℕ} (text : List ℕ) → Wrote d 0 text e r → length text ≤ length d → length text ≤ mostText → Answered text d e (Count r)
-unfolding listedNumbers answerIf heldAfter outputNumbers
+unfolding writtenNumbers answerIf heldAfter outputNumbers
 text-printed {d} {e} {r} text w h l =
     let f = in-front w h in
     let long = room-enough (length text) (length d) h in
@@ -61,26 +61,8 @@ text-printed {d} {e} {r} text w h l =
       enough = record { bounded = l; fits = λ m. ap Count (f .0) };
     }
 
--- where bytes were written, there are as many as the text has
-pub count-is : (text d : List ℕ) (r : Listed) → r ≡ textAnswer text d → (n : ℕ) → r ≡ Count n → n ≡ length text
-unfolding answerIf
-count-is text d r a n b = go (roomRule (length text) (length d)) (sym b ∙ a)
-  where
-    go : (c : Checked) → Count n ≡ answerIf Count (λ rule. Refused rule 0) c (length text) → n ≡ length text
-    go Passed e = cc
-    go (Broken k) e = let z : _≡_ {A = ℕ} 0 1 = cc in absurd (omega arith)
-
--- a refusal has offset 0
-pub refused-at-0 : (text d : List ℕ) {rule : Rule} {at : ℕ} → textAnswer text d ≡ Refused rule at → at ≡ 0
-unfolding answerIf
-refused-at-0 text d {rule} {at} e = go (roomRule (length text) (length d)) e
-  where
-    go : (c : Checked) → answerIf Count (λ rule. Refused rule 0) c (length text) ≡ Refused rule at → at ≡ 0
-    go Passed e = let z : _≡_ {A = ℕ} 0 1 = cc in absurd (omega arith)
-    go (Broken k) e = cc
-
--- and they are the text
-pub written : (text d e : List ℕ) (r : Listed) → r ≡ textAnswer text d → e ≡ held text d → (n : ℕ) → r ≡ Count n → take n e ≡ text
+-- where bytes were written, they are the text
+pub written : (text d e : List ℕ) (r : Written) → r ≡ textAnswer text d → e ≡ held text d → (n : ℕ) → r ≡ Count n → take n e ≡ text
 unfolding answerIf heldAfter
 written text d e r a h n b = go (roomRule (length text) (length d)) refl
   where

@@ -9,7 +9,6 @@ use judgement::Verdict;
 pub use listing::put_listing;
 use loads::Loads;
 pub use refusal::put_refusal;
-use site::Rule;
 
 // What a line of the listing shows. Name bytes from `name_len` on are not shown. With the loads first a row is copied in fewer pieces.
 pub struct Row {
@@ -17,10 +16,4 @@ pub struct Row {
     pub name: [u8; 8],
     pub name_len: u8,
     pub verdict: Verdict,
-}
-
-// How many bytes were written, or the rule that was broken and where.
-pub enum Listed {
-    Count(usize),
-    Refused { rule: Rule, at: usize },
 }

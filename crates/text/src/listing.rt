@@ -5,14 +5,14 @@ ghost use lib.ListN.{length, take};
 ghost use Rattle.text.specs.TextLengths.{mostLines};
 ghost use Rattle.output.specs.Writing.{Wrote, each};
 ghost use Rattle.text.specs.Line.{line};
-ghost use Rattle.output.specs.Output.{heldNumbers, held};
-ghost use Rattle.text.specs.TextAnswer.{listedNumbers, textAnswer, RoomEnough};
+ghost use Rattle.output.specs.Output.{writtenNumbers, heldNumbers, held};
+ghost use Rattle.text.specs.TextAnswer.{textAnswer, RoomEnough};
 ghost use Rattle.text.specs.Listing.{listing};
 ghost use Rattle.text.specs.Marks.{Marked};
-use crate::Listed;
 use crate::Row;
 use crate::line::line_len;
 use crate::line::put_line;
+use output::Written;
 use output::put_bytes;
 use site::Rule;
 
@@ -46,10 +46,10 @@ fn put_lines(out: &mut [u8], at: usize, rows: [Row; 500], count: usize) -> usize
 }
 
 // Writes the listing of the first count rows at the start of out. A buffer that is too short stays as it is.
-pub fn put_listing(out: &mut [u8], rows: [Row; 500], count: usize) -> Listed
+pub fn put_listing(out: &mut [u8], rows: [Row; 500], count: usize) -> Written
     ensures answer { λ r. ⌜ r ≡ textAnswer (listing (take count rows)) (now (out .entry)) ⌝ }
     ensures buffer { λ _. ⌜ now (out .exit) ≡ held (listing (take count rows)) (now (out .entry)) ⌝ }
-    ensures numbers { λ r. ⌜ listedNumbers r ≡ heldNumbers (listing (take count rows)) (now (out .entry)) ⌝ }
+    ensures numbers { λ r. ⌜ writtenNumbers r ≡ heldNumbers (listing (take count rows)) (now (out .entry)) ⌝ }
     ensures enough { λ r. ⌜ RoomEnough (listing (take count rows)) (now (out .entry)) r ⌝ }
     ensures marks { λ r. ⌜ Marked (take count rows) (now (out .exit)) r ⌝ }
 {
@@ -60,7 +60,7 @@ pub fn put_listing(out: &mut [u8], rows: [Row; 500], count: usize) -> Listed
     let need = lines_len(rows, n) + 51;
     if out.len() < need {
         let rule = Rule::BufferShort;
-        return Listed::Refused { rule, at: 0 };
+        return Written::Refused { rule, at: 0 };
     }
     let at = put_bytes(
         out,
@@ -68,5 +68,5 @@ pub fn put_listing(out: &mut [u8], rows: [Row; 500], count: usize) -> Listed
         b"id maxS minN maxN nutN region acidEx nutEx verdict\n",
     );
     let end = put_lines(out, at, rows, n);
-    Listed::Count(end)
+    Written::Count(end)
 }

@@ -7,8 +7,8 @@ use Rattle.cases.proofs.print_vector.Tie as tie
 report-requires : tie.Need-report-requires
 report-requires c κs = search needs
 
-print-listed-requires : tie.Need-print-listed-requires
-print-listed-requires c κs = search needs
+print-written-requires : tie.Need-print-written-requires
+print-written-requires c κs = search needs
 
 print-rewritten-requires : tie.Need-print-rewritten-requires
 print-rewritten-requires c κs = search needs
@@ -57,7 +57,7 @@ print-vector-spec =
     tie.close
     (tie.spec
     report-requires
-    print-listed-requires
+    print-written-requires
     print-rewritten-requires
     sub-print-rewritten
     slice-relend-prefix-print-rewritten

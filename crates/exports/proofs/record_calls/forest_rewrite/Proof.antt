@@ -1,7 +1,6 @@
--- A record that was read passes the writer's check and is written as its own bytes, so that after the reader only 11 can come.
 use denote.Ref.{now}
-use Rattle.exports.proofs.RewriteLaws.{not-read, not-written, rewritten}
 use borrow.Author.Needs.{needs}
+use Rattle.exports.proofs.RewriteLaws.{not-read, rewritten}
 use Rattle.exports.proofs.record_calls.forest_rewrite.Statement.{statement}
 use Rattle.exports.proofs.record_calls.forest_rewrite.Tie as tie
 
@@ -11,8 +10,8 @@ read-record-requires c κs = search needs
 enum-known-outcome : tie.Need-enum-known-outcome
 enum-known-outcome c = search needs
 
-refusal-code-at-requires : tie.Need-refusal-code-at-requires
-refusal-code-at-requires c κs = search needs
+written-code-requires : tie.Need-written-code-requires
+written-code-requires c κs = search needs
 
 enum-told : tie.Need-enum-told
 enum-told c = search needs
@@ -20,44 +19,27 @@ enum-told c = search needs
 write-record-requires : tie.Need-write-record-requires
 write-record-requires c κs = search needs
 
-enum-known-rule : tie.Need-enum-known-rule
-enum-known-rule c = search needs
-
-refusal-code-requires : tie.Need-refusal-code-requires
-refusal-code-requires c κs = search needs
-
-enum-known-n : tie.Need-enum-known-n
-enum-known-n c = search needs
+written-code-requires-2 : tie.Need-written-code-requires-2
+written-code-requires-2 c κs = search needs
 
 returns : tie.Need-returns
 returns c =
     let r = c .before .before .before .before .before in
     let a = r .before .before .before .args in
-    rw (c .refusal-code-at .ensures)
-    (not-read (now (a .input)) (now (a .out)) (r .read-record .result) (r .read-record .ensures .0) _ _ (c .before .before .outcome .given .1))
+    not-read (now (a .input)) (now (a .out)) (r .read-record .result) (r .read-record .ensures .0) (c .before .before .outcome .given .1) (c .written-code .ensures)
 
 same-length : tie.Need-same-length
 same-length c = search needs
 
 returns-2 : tie.Need-returns-2
 returns-2 c =
-    let w = c .before .before .before .before .before .before in
-    let r = w .before .before .before .before .before in
+    let w = c .before .before .before in
+    let told = w .before .before in
+    let r = told .before .before .before in
     let a = r .before .before .before .args in
-    rw (c .refusal-code .ensures)
-    (not-written (now (a .input)) (now (a .out)) (r .read-record .result) (r .read-record .ensures .0) (w .before .before .enum-told .given .1)
-    (r .read-record .ensures .1 .1 (w .before .before .enum-told .given .1)) (w .write-record .result) _ (w .write-record .ensures .0) (w .write-record .ensures .1 .0) _ (c .before .before .rule .given .1))
-
-same-length-2 : tie.Need-same-length-2
-same-length-2 c = search needs
-
-returns-3 : tie.Need-returns-3
-returns-3 c =
-    let w = c .before .before .before .before .before in
-    let r = w .before .before .before .before .before in
-    let a = r .before .before .before .args in
-    rewritten (now (a .input)) (now (a .out)) (r .read-record .result) (r .read-record .ensures .0) (w .before .before .enum-told .given .1)
-    (r .read-record .ensures .1 .1 (w .before .before .enum-told .given .1)) (w .write-record .result) _ (w .write-record .ensures .0) (w .write-record .ensures .1 .0) _ (c .before .n .given .1)
+    let o = told .enum-told .given .1 in
+    rewritten (now (a .input)) (now (a .out)) (r .read-record .result) (r .read-record .ensures .0) o
+    (r .read-record .ensures .1 .1 o) (w .write-record .ensures .0) (w .write-record .ensures .1 .0) (c .written-code2 .ensures)
 
 pub forest-rewrite-spec : {M : Type 1} → statement M
 forest-rewrite-spec =
@@ -65,14 +47,10 @@ forest-rewrite-spec =
     (tie.spec
     read-record-requires
     enum-known-outcome
-    refusal-code-at-requires
+    written-code-requires
     enum-told
     write-record-requires
-    enum-known-rule
-    refusal-code-requires
-    enum-known-n
+    written-code-requires-2
     returns
     same-length
-    returns-2
-    same-length-2
-    returns-3)
+    returns-2)

@@ -9,7 +9,7 @@ use Rattle.loads.specs.CriticalLoads.{loadsOf}
 use Rattle.judgement.specs.Answers.{judgedOf}
 use Rattle.judgement.proofs.JudgementAnswers.{judgement-given, judgement-refused}
 use Rattle.exports.specs.Layout.{siteIn, valueCheck, loadsNumbers, judgementNumbers}
-use Rattle.exports.proofs.SiteValueLaws.{wrong-length, as-site, value-refused, value-short, value-written, length-judged, with-marks}
+use Rattle.exports.proofs.SiteValueLaws.{wrong-length, as-site, value-refused, value-short, value-written, length-judged, with-mark}
 use Rattle.output.proofs.WritingLaws.{then}
 use borrow.Author.Needs.{needs}
 use Rattle.exports.proofs.value_calls.forest_judge.Statement.{statement}
@@ -31,7 +31,7 @@ returns c =
     let s = c .before .before .before .before in
     let b = now (s .args .site) in
     rw (c .refusal-code .ensures)
-    (with-marks b (now (s .args .out)) _ (value-refused b BadLength 8 (judgementNumbers (siteIn b)) (now (s .args .out)) (wrong-length b (c .before .if1 .taken))))
+    (with-mark b (now (s .args .out)) _ (value-refused b 8 (omega arith) (judgementNumbers (siteIn b)) (now (s .args .out)) BadLength (wrong-length b (c .before .if1 .taken))))
 
 -- the value passed, and this is its judgement
 judged-site :
@@ -66,7 +66,7 @@ returns-2 c =
     let s = entry at in
     let b = now (s .args .site) in
     rw (c .refusal-code3 .ensures)
-    (with-marks b (now (s .args .out)) _ (value-short b 8 (judgementNumbers (siteIn b)) (now (s .args .out)) (judged-site (c .before .before) .0) (omega arith)))
+    (with-mark b (now (s .args .out)) _ (value-short b 8 (omega arith) (judgementNumbers (siteIn b)) (now (s .args .out)) (judged-site (c .before .before) .0) (omega arith)))
 
 verdict-marked-requires : tie.Need-verdict-marked-requires
 verdict-marked-requires c κs = search needs
@@ -83,7 +83,7 @@ returns-3 c =
     let s = entry at in
     let b = now (s .args .site) in
     rw (c .refusal-code2 .ensures)
-    (with-marks b (now (s .args .out)) _ (value-refused b _ 8 (judgementNumbers (siteIn b)) (now (s .args .out))
+    (with-mark b (now (s .args .out)) _ (value-refused b 8 (omega arith) (judgementNumbers (siteIn b)) (now (s .args .out)) _
     (site-rule at ∙ judgement-refused (at .before .site-in .result) _ (sym (at .judge .ensures .0) ∙ c .before .before .rule .given .1))))
 
 same-length : tie.Need-same-length
@@ -101,7 +101,7 @@ returns-4 c =
     let old = now (s .args .out) in
     let j = judged-site told in
     let w = then (first .put-four .ensures) (second .put-four2 .ensures) in
-    with-marks b old _ (value-written b 8 (judgementNumbers (siteIn b)) old _ (j .0) (length-judged (siteIn b)) (omega arith)
+    with-mark b old _ (value-written b 8 (omega arith) (judgementNumbers (siteIn b)) old (j .0) (length-judged (siteIn b)) (omega arith)
     (rw (j .1) at (rw (marked .verdict-marked .ensures) at w)))
 
 pub forest-judge-spec : {M : Type 1} → statement M

@@ -30,7 +30,7 @@ returns : tie.Need-returns
 returns c =
     let s = c .before .before .before .before in
     let b = now (s .args .site) in
-    rw (c .refusal-code .ensures) (value-refused b BadLength 4 (loadsNumbers (siteIn b)) (now (s .args .out)) (wrong-length b (c .before .if1 .taken)))
+    rw (c .refusal-code .ensures) (value-refused b 4 (omega arith) (loadsNumbers (siteIn b)) (now (s .args .out)) BadLength (wrong-length b (c .before .if1 .taken)))
 
 -- the value passed, and these are its loads
 loaded :
@@ -65,7 +65,7 @@ returns-2 c =
     let s = entry at in
     let b = now (s .args .site) in
     rw (c .refusal-code3 .ensures)
-    (value-short b 4 (loadsNumbers (siteIn b)) (now (s .args .out)) (loaded (c .before .before) .0) (c .before .if2 .taken))
+    (value-short b 4 (omega arith) (loadsNumbers (siteIn b)) (now (s .args .out)) (loaded (c .before .before) .0) (c .before .if2 .taken))
 
 put-four-requires : tie.Need-put-four-requires
 put-four-requires c κs = search needs
@@ -76,7 +76,7 @@ returns-3 c =
     let s = entry at in
     let b = now (s .args .site) in
     rw (c .refusal-code2 .ensures)
-    (value-refused b _ 4 (loadsNumbers (siteIn b)) (now (s .args .out))
+    (value-refused b 4 (omega arith) (loadsNumbers (siteIn b)) (now (s .args .out)) _
     (site-rule at ∙ loads-refused (at .before .site-in .result) _ (sym (at .critical-loads .ensures .0) ∙ c .before .before .rule .given .1)))
 
 same-length : tie.Need-same-length
@@ -91,7 +91,7 @@ returns-4 c =
     let b = now (s .args .site) in
     let old = now (s .args .out) in
     let l = loaded told in
-    value-written b 4 (loadsNumbers (siteIn b)) old _ (l .0) refl (omega arith) (rw (l .1) at (put .put-four .ensures))
+    value-written b 4 (omega arith) (loadsNumbers (siteIn b)) old (l .0) refl (omega arith) (rw (l .1) at (put .put-four .ensures))
 
 pub forest-loads-spec : {M : Type 1} → statement M
 forest-loads-spec =

@@ -1,23 +1,22 @@
--- The loop's invariant: done bytes are in the buffer, and some numbers of reads lead there (`Reached`).
+-- The loop's invariant: done bytes are in the buffer, none or fewer than it takes.
 use Prim.Native.Nat.{ℕ, _-_, _≤_, _<_}
 use mathlib.Core.Path.{_≡_, refl, sym, _∙_}
 use mathlib.Core.Logic.{_⊎_, inl, inr}
 use native.Mathlib.Omega.{arith}
 use borrow.Author.Needs.{needs}
 use lib.ListN.{length}
-use Rattle.program.specs.declared.ReadState.the-variants.{More}
-use Rattle.program.proofs.ReaderLaws.{Reached, none-yet, reached-next, more-is-later, all-read}
+use Rattle.program.proofs.ReaderLaws.{more-is-later}
 use Rattle.program.proofs.reader.read_all.Statement.{statement}
 use Rattle.program.proofs.reader.read_all.Tie as tie
 
 abbrev Inv-loop : tie.InvT-loop
-Inv-loop buffer₀ done₀ buffer done = (done ≤ length buffer) × (length buffer ≡ length buffer₀) × Reached (length buffer) (More done)
+Inv-loop buffer₀ done₀ buffer done = (done ≤ length buffer) × (length buffer ≡ length buffer₀) × ((done ≡ 0) ⊎ (done < length buffer))
 
 abbrev μ-loop : tie.MeasureT-loop
 μ-loop buffer₀ done₀ buffer done = length buffer - done
 
 loop-holds : tie.Need-loop-holds Inv-loop μ-loop
-loop-holds c = (omega arith, refl, none-yet _)
+loop-holds c = (omega arith, refl, inl refl)
 
 read-once-requires : tie.Need-read-once-requires Inv-loop μ-loop
 read-once-requires c κs = search needs
@@ -43,11 +42,10 @@ loop-again : tie.Need-loop-again Inv-loop μ-loop
 loop-again c =
     let once = c .before .before .before .before .before in
     let at = once .before .before in
-    let e = once .read-once .ensures in
     let l = once .read-once .kept .0 in (
       omega (arith, later c, l),
       l ∙ at .loop .inv .1,
-      rw l (reached-next (length (at .loop .buffer)) (at .loop .done) _ (at .loop .inv .2) (sym (c .before .reading .given .1) ∙ e .next)),
+      inr (omega (arith, later c, l)),
     )
 
 same-length : tie.Need-same-length Inv-loop μ-loop
@@ -63,8 +61,12 @@ returns c =
     let once = c .before .before .before in
     let at = once .before .before in
     rw (← at .loop .inv .1)
-    (all-read (length (at .loop .buffer)) (at .loop .done) (once .read-once .result) (at .loop .inv .2) (once .read-once .ensures .next)
-    (λ n q. other (c .match .keys2) (rw q)))
+    record {
+      done = at .loop .done;
+      room = at .loop .inv .2;
+      next = once .read-once .ensures .next;
+      stopped = λ n q. other (c .match .keys2) (rw q);
+    }
 
 pub read-all-spec : {M : Type 1} → statement M
 read-all-spec =

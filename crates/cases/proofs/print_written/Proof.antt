@@ -1,11 +1,11 @@
 use native.Mathlib.Omega.{arith}
 use lib.ListN.{length-take}
 use borrow.Author.Needs.{needs}
-use Rattle.cases.proofs.print_listed.Statement.{statement}
-use Rattle.cases.proofs.print_listed.Tie as tie
+use Rattle.cases.proofs.print_written.Statement.{statement}
+use Rattle.cases.proofs.print_written.Tie as tie
 
-enum-known-listed : tie.Need-enum-known-listed
-enum-known-listed c = search needs
+enum-known-written : tie.Need-enum-known-written
+enum-known-written c = search needs
 
 slice-aggregate-write-all : tie.Need-slice-aggregate-write-all
 slice-aggregate-write-all c = simp length-take (omega arith)
@@ -25,11 +25,11 @@ returns-2 c = search needs
 returns-3 : tie.Need-returns-3
 returns-3 c = search needs
 
-pub print-listed-spec : {M : Type 1} → statement M
-print-listed-spec =
+pub print-written-spec : {M : Type 1} → statement M
+print-written-spec =
     tie.close
     (tie.spec
-    enum-known-listed
+    enum-known-written
     slice-aggregate-write-all
     write-all-requires
     enum-told
