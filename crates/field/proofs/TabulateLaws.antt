@@ -18,11 +18,6 @@ module _ {ℓ} {A : Type ℓ} where
   tabulate-cong zero f g h = refl
   tabulate-cong (suc n) f g h = rw (h 0, tabulate-cong n (λ i. f (suc i)) (λ i. g (suc i)) (λ i. h (suc i)))
 
-  pub length-tabulate : (n : ℕ) (f : ℕ → A) → length (tabulate n f) ≡ n
-  unfolding tabulate
-  length-tabulate zero f = refl
-  length-tabulate (suc n) f = ap suc (length-tabulate n (λ i. f (suc i)))
-
   pub tabulate-pad : (n m : ℕ) (v : List A) (d : A) → n ≤ m → tabulate n (λ i. getD v i d) ≡ take n (v ++ replicate m d)
   unfolding tabulate
   tabulate-pad zero m v d h = refl

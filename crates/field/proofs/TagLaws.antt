@@ -19,7 +19,7 @@ use Rattle.site.specs.Values.{due, itemsOf, lengthPermitted, itemCount, countRu
 use Rattle.site.proofs.LengthLaws.{permitted-parts, parts-permitted, parts-counted, one-item}
 use Rattle.field.specs.Clean.{Sized, AllBytes}
 use Rattle.field.proofs.All.{All, none, _▸_}
-use Rattle.field.proofs.TabulateLaws.{take-tabulate, length-tabulate, tabulate-clean}
+use Rattle.field.proofs.TabulateLaws.{take-tabulate, tabulate-clean}
 use Rattle.site.proofs.PastLaws.{entry-past}
 use Rattle.field.proofs.EntryLaws.{stand-back, entries-back}
 use Rattle.field.proofs.KindLaws.{Made, Kept, field-passed, OneLength, OneItem, byte-item, word-item, pair-item, words-item}
@@ -36,13 +36,12 @@ module _ (v : List ℕ) where
 
 -- ---- what reading a field leaves in a site
 
-pub record NameTidy (s : Site) : Type 0 where
-  pub sized : length (s .name) ≡ 8
-  pub clean : take 8 (take (s .«name_len») (s .name) ++ replicate 8 0) ≡ s .name
+-- zeros past the name and past the entries
+abbrev NameTidy : Site → Type 0
+NameTidy s = take 8 (take (s .«name_len») (s .name) ++ replicate 8 0) ≡ s .name
 
-pub record StandTidy (s : Site) : Type 0 where
-  pub sized : length (s .stand) ≡ 4
-  pub clean : take 4 (take (s .entries) (s .stand) ++ replicate 4 noEntry) ≡ s .stand
+abbrev StandTidy : Site → Type 0
+StandTidy s = take 4 (take (s .entries) (s .stand) ++ replicate 4 noEntry) ≡ s .stand
 
 unfoldable pub Tidy : ℕ → Site → Type 0
 Tidy t s = pick (eqb t 1) (NameTidy s) (pick (eqb t 7) (StandTidy s) Unit)
@@ -92,21 +91,21 @@ name-own : (v : List ℕ) (x : Site) → lengthPermitted 1 (length v) ≡ true �
 unfolding store itemCount Tidy
 name-own v x p =
     let q = permitted-parts 1 (length v) p in
-    (parts-counted 1 (store 1 v x) (omega arith) (omega arith), record { sized = length-tabulate 8 _; clean = name-clean v })
+    (parts-counted 1 (store 1 v x) (omega arith) (omega arith), name-clean v)
 
 stand-own : (v : List ℕ) (x : Site) → lengthPermitted 7 (length v) ≡ true → (countRule 7 (store 7 v x) ≡ Passed) × Tidy 7 (store 7 v x)
 unfolding store itemCount Tidy
 stand-own v x p =
     let q = permitted-parts 7 (length v) p in
-    (parts-counted 7 (store 7 v x) (omega arith) (omega arith), record { sized = length-tabulate 4 _; clean = stand-clean v p })
+    (parts-counted 7 (store 7 v x) (omega arith) (omega arith), stand-clean v p)
 
 name-other : (u : ℕ) (v : List ℕ) (x : Site) → (u ≡ 1 → ⊥) → (countRule 1 x ≡ Passed) × Tidy 1 x → (countRule 1 (store u v x) ≡ Passed) × Tidy 1 (store u v x)
 unfolding store countRule itemCount Tidy
-name-other u v x h p = (rw (ne-eqb u 1 h) (p .0), record { sized = rw (ne-eqb u 1 h) (p .1 .sized); clean = rw (ne-eqb u 1 h) (p .1 .clean) })
+name-other u v x h p = (rw (ne-eqb u 1 h) (p .0), rw (ne-eqb u 1 h) (p .1))
 
 stand-other : (u : ℕ) (v : List ℕ) (x : Site) → (u ≡ 7 → ⊥) → (countRule 7 x ≡ Passed) × Tidy 7 x → (countRule 7 (store u v x) ≡ Passed) × Tidy 7 (store u v x)
 unfolding store countRule itemCount Tidy
-stand-other u v x h p = (rw (ne-eqb u 7 h) (p .0), record { sized = rw (ne-eqb u 7 h) (p .1 .sized); clean = rw (ne-eqb u 7 h) (p .1 .clean) })
+stand-other u v x h p = (rw (ne-eqb u 7 h) (p .0), rw (ne-eqb u 7 h) (p .1))
 
 -- a field of many items
 many-part : (t : ℕ) → Kept siteKind t

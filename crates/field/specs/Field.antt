@@ -43,7 +43,7 @@ wordBytes x = (x / 256) ∷ (x % 256) ∷ []
 -- the bytes of entries
 unfoldable pub entriesBytes : List Entry → List ℕ
 entriesBytes [] = []
-entriesBytes (e ∷ es) = (e .species) ∷ (e .share) ∷ (e .«yield_kg» / 256) ∷ (e .«yield_kg» % 256) ∷ entriesBytes es
+entriesBytes (e ∷ es) = e .species ∷ e .share ∷ wordBytes (e .«yield_kg») ++ entriesBytes es
 
 -- the site that reading starts from
 unfoldable pub blankSite : Site
@@ -99,7 +99,7 @@ abbrev pub siteKind : Kind Site
 siteKind =
     record { tag = 82; due = due; blank = blankSite; permitted = lengthPermitted; store = store; rule = valueRule; bytes = value }
 
--- the site with the field, where its length is permitted
+-- what rules 7 to 10 say of the field; and the site with its value, where its length is permitted, also if rules 8 to 10 refuse it
 unfoldable pub taken : ℕ → List ℕ → Site → Taken
 taken t v s = record { checked = fieldRule siteKind t v s; site = pick (lengthPermitted t (length v)) (store t v s) s }
 

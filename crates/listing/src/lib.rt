@@ -16,7 +16,8 @@ pub struct Walked {
     pub count: usize,
 }
 
-// A step of the walk, at an offset of a file: the row of the record there, or its fault and a blank row; and the offset after it.
+// A step of the walk, at an offset of a file: the row of the record there and the offset after it, or its fault, a blank row and the offset
+// itself.
 struct Step {
     outcome: Outcome,
     row: Row,

@@ -22,7 +22,7 @@ use Rattle.record.proofs.ResultLaws.{found-numbers}
 use Rattle.record.proofs.OuterLaws.{site-past}
 use Rattle.record.proofs.RecordLaws.{AcceptedAt, accepted-at, after, inside, near, record-take, record-written, record-read}
 use Rattle.record.proofs.FirstFaultLaws.{record-fault-near}
-use Rattle.record.proofs.SiteTrips.{walked-passes, walked-sized, walked-clean, encode-read, read-encode}
+use Rattle.record.proofs.SiteTrips.{walked-passes, walked-clean, encode-read, read-encode}
 
 -- ---- by the definition
 
@@ -53,9 +53,6 @@ module _ (f : List ℕ) (at : ℕ) {x : Site × ℕ} (e : siteAt f at ≡ good x
 
   pub site-passes : siteRule (x .0) ≡ Passed
   site-passes = walked-passes _ _ _ (here .walked)
-
-  pub site-sized : Sized (x .0)
-  site-sized = walked-sized _ _ _ (here .walked)
 
   pub site-clean : clean (x .0) ≡ x .0
   site-clean = walked-clean _ _ _ (here .walked)

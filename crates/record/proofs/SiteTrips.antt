@@ -36,7 +36,7 @@ passed-fields (t ∷ ts) s e =
     let p = both-passed _ _ e in
     both-passed _ _ (p .0) ▸ passed-fields ts s (p .1)
 
--- ---- a site that was read passes the check, is clean, and its arrays have their lengths
+-- ---- a site that was read passes the check and is clean
 
 module _ (s : Site) (bs : List ℕ) (at : ℕ) (e : fieldsIn siteKind bs at ≡ good s) where
   as-read : All (λ t. AsRead t s) due
@@ -46,13 +46,9 @@ module _ (s : Site) (bs : List ℕ) (at : ℕ) (e : fieldsIn siteKind bs at ≡ 
   unfolding siteRule
   walked-passes = fields-passed due s as-read
 
-  pub walked-sized : Sized s
-  unfolding Tidy
-  walked-sized = record { name = all-at as-read 0 0 (omega arith) .tidy .sized; stand = all-at as-read 6 0 (omega arith) .tidy .sized }
-
   pub walked-clean : clean s ≡ s
   unfolding Tidy clean
-  walked-clean = rw (all-at as-read 0 0 (omega arith) .tidy .clean, all-at as-read 6 0 (omega arith) .tidy .clean)
+  walked-clean = rw (all-at as-read 0 0 (omega arith) .tidy, all-at as-read 6 0 (omega arith) .tidy)
 
   -- and is written as it was
   pub encode-read : AllBytes bs → encodeFields siteKind due s ≡ bs

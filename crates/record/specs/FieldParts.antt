@@ -1,11 +1,12 @@
 -- Document 01, "Record, file, listing": a field is a tag, a two-byte length, a value. Numbers of two bytes have the high byte first.
-use Prim.Native.Nat.{ℕ, _+_, _/_, _%_}
-use mathlib.Core.List.{List, _∷_}
+use Prim.Native.Nat.{ℕ, _+_}
+use mathlib.Core.List.{List, _∷_, _++_}
 use lib.ListN.{take, drop, length}
 use Rattle.site.specs.Bytes.{wordAt}
+use Rattle.field.specs.Field.{wordBytes}
 
 unfoldable pub fieldOf : ℕ → List ℕ → List ℕ
-fieldOf t v = t ∷ (length v / 256) ∷ (length v % 256) ∷ v
+fieldOf t v = t ∷ wordBytes (length v) ++ v
 
 -- at the start of a field: its length as stated, its value, and what follows it
 abbrev pub statedLen : List ℕ → ℕ

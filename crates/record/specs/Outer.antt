@@ -23,7 +23,7 @@ outcomeNumbers (Refused r at) = (ruleNumber r, at)
 
 -- the outer tag 52
 abbrev pub siteTag : ℕ → Bool
-siteTag t = eqb t 82
+siteTag t = eqb t (siteKind .tag)
 
 abbrev pub siteKinds : ℕ → Kind Site
 siteKinds t = siteKind

@@ -13,16 +13,19 @@ use Rattle.record.specs.FieldParts.{statedLen, valueAt}
 use Rattle.field.specs.Kind.{Kind}
 use Rattle.record.specs.Fields.{fieldsIn}
 
--- a record has at most 258 bytes: its tag, its length, and a value of 255
+-- the greatest length of an outer field, and of a record with its tag and its length; 258
+abbrev pub mostOuter : ℕ
+mostOuter = 255
+
 abbrev pub mostRecord : ℕ
-mostRecord = 3 + 255
+mostRecord = 3 + mostOuter
 
 -- rules 2, 3 and 2, in this order, at bytes bs where an outer field is due; `known` are the outer tags that may stand there
 unfoldable pub outerRule : (ℕ → Bool) → List ℕ → Checked
 outerRule known bs =
     pick (ltb (length bs) 3) (Broken OuterCut)
     (pick (known (getD bs 0 0))
-    (pick (ltb 255 (statedLen bs)) (Broken OuterCut)
+    (pick (ltb mostOuter (statedLen bs)) (Broken OuterCut)
     (pick (ltb (length bs - 3) (statedLen bs)) (Broken OuterCut) Passed))
     (Broken OuterTag))
 

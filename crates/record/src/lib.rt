@@ -27,7 +27,7 @@ pub struct Read {
     pub site: Site,
 }
 
-// A record of a file, and where the next one starts.
+// A record of a file, and where the next one starts. A refusal carries the blank site and the record's own offset.
 pub struct Found {
     pub outcome: Outcome,
     pub site: Site,

@@ -156,7 +156,7 @@ pub fn value_of(site: Site, tag: u8) -> Content
         13 => one_word(site.ceiling),
         14 => one_word(site.leachate),
         15 => two_words(site.sulphur, site.nitrogen),
-        // no count is permitted for another tag
+        // another tag has no bytes
         _ => no_bytes(),
     }
 }
