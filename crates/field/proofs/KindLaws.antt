@@ -44,9 +44,9 @@ module _ (v : List ℕ) where
 
 module _ {A : Type 0} (K : Kind A) where
   -- what a field that passed says
-  pub field-passed : (t : ℕ) (v : List ℕ) (x : A) → fieldRule K t v x ≡ Passed → (K .permitted t (length v) ≡ true) × (K .rule t (K .store t v x) ≡ Passed)
+  pub parts-passed : (t : ℕ) (v : List ℕ) (x : A) → fieldRule K t v x ≡ Passed → (K .permitted t (length v) ≡ true) × (K .rule t (K .store t v x) ≡ Passed)
   unfolding fieldRule
-  field-passed t v x e = pass-then (K .permitted t (length v)) BadLength (K .rule t (K .store t v x)) e
+  parts-passed t v x e = pass-then (K .permitted t (length v)) BadLength (K .rule t (K .store t v x)) e
 
   -- what the field t makes of a value, and other fields leave
   pub record Made (P : A → Type 0) (t : ℕ) : Type 0 where
@@ -89,7 +89,7 @@ module _ {A : Type 0} (K : Kind A) where
     pub item : OneItem t
     item = record {
       kept = record {
-        own = λ v x p b. is (K .store t v x) [] .0 ∙ ap bytes (is x v .2) ∙ back v (one .0 (length v) (field-passed t v x p .0)) b;
+        own = λ v x p b. is (K .store t v x) [] .0 ∙ ap bytes (is x v .2) ∙ back v (one .0 (length v) (parts-passed t v x p .0)) b;
         other = λ u v x h. is (K .store u v x) [] .0 ∙ ap bytes (other u v x h) ∙ sym (is x [] .0);
       };
       rule = λ u v x h e. is (K .store u v x) [] .1 ∙ ap check (other u v x h) ∙ sym (is x [] .1) ∙ e;

@@ -22,7 +22,7 @@ use Rattle.field.proofs.All.{All, none, _▸_}
 use Rattle.field.proofs.TabulateLaws.{take-tabulate, tabulate-clean}
 use Rattle.site.proofs.PastLaws.{entry-past}
 use Rattle.field.proofs.EntryLaws.{stand-back, entries-back}
-use Rattle.field.proofs.KindLaws.{Made, Kept, field-passed, OneLength, OneItem, byte-item, word-item, pair-item, words-item}
+use Rattle.field.proofs.KindLaws.{Made, Kept, parts-passed, OneLength, OneItem, byte-item, word-item, pair-item, words-item}
 use Rattle.field.proofs.FieldValueLaws.{name-counts, name-long, stand-counts, stand-long, bytes-long}
 
 -- ---- what was stored is written
@@ -63,7 +63,7 @@ one-tag : (t : ℕ) → OneItem siteKind t → ((s : Site) → (countRule t s �
 one-tag t one plain = record {
   kept = one .kept;
   read = record {
-    own = λ v x e. record { count = plain (store t v x) .0; rule = field-passed siteKind t v x e .1; tidy = plain (store t v x) .1 };
+    own = λ v x e. record { count = plain (store t v x) .0; rule = parts-passed siteKind t v x e .1; tidy = plain (store t v x) .1 };
     other = λ u v x h r. record { count = plain (store u v x) .0; rule = one .rule u v x h (r .rule); tidy = plain (store u v x) .1 };
   };
   again = λ s z c e. one .again s e;
@@ -116,7 +116,7 @@ many-part : (t : ℕ) → Kept siteKind t
 many-part t kept own other rule again = record {
   kept = kept;
   read = record {
-    own = λ v x e. let p = own v x (field-passed siteKind t v x e .0) in record { count = p .0; rule = field-passed siteKind t v x e .1; tidy = p .1 };
+    own = λ v x e. let p = own v x (parts-passed siteKind t v x e .0) in record { count = p .0; rule = parts-passed siteKind t v x e .1; tidy = p .1 };
     other = λ u v x h r. let p = other u v x h (r .count, r .tidy) in record { count = p .0; rule = rule u v x h (r .rule); tidy = p .1 };
   };
   again = again;
@@ -146,14 +146,14 @@ name-tag : TagLaws 1
 unfolding value valueRule store
 name-tag =
     many-part 1
-    (record { own = λ v x p b. name-kept v (field-passed siteKind 1 v x p .0); other = λ u v x h. rw (ne-eqb u 1 h) })
+    (record { own = λ v x p b. name-kept v (parts-passed siteKind 1 v x p .0); other = λ u v x h. rw (ne-eqb u 1 h) })
     name-own name-other (λ u v x h e. rw (ne-eqb u 1 h) e) name-again
 
 stand-tag : TagLaws 7
 unfolding value valueRule store
 stand-tag =
     many-part 7
-    (record { own = λ v x p b. stand-kept v (field-passed siteKind 7 v x p .0) b; other = λ u v x h. rw (ne-eqb u 7 h) })
+    (record { own = λ v x p b. stand-kept v (parts-passed siteKind 7 v x p .0) b; other = λ u v x h. rw (ne-eqb u 7 h) })
     stand-own stand-other (λ u v x h e. rw (ne-eqb u 7 h) e) stand-again
 
 -- ---- all fields: a line for each tag

@@ -13,7 +13,7 @@ use Rattle.record.specs.declared.Outcome.the-variants.{Accepted, Refused}
 use Rattle.record.specs.Result.{good, fault, resultNumbers}
 use Rattle.record.specs.Outer.{siteAt, recordAt, outcomeNumbers}
 use Rattle.record.specs.File.{Contents, first, onto, walkFile, contents}
-use Rattle.record.proofs.FileLaws.{walk-end, walk-full, walk-step}
+use Rattle.record.proofs.FileLaws.{file-end, file-full, file-step}
 use Rattle.record.proofs.Place.{record-good, record-fault, site-after, site-inside}
 use Rattle.record.proofs.SiteFile.{sites-some}
 use Rattle.text.specs.declared.Row.{Row}
@@ -65,18 +65,18 @@ padded-set rs r h =
 module _ {f : List ℕ} {rows : List Row} {count at : ℕ} (so : SoFar f rows count at) where
   pub so-end : length f ≤ at → record { outcome = Accepted; rows = rows; count = count } ≡ walkedOf (contents f)
   unfolding walkedOf
-  so-end h = rw (so .rest, walk-end (siteAt f) (length f) (mostRecords - count) at h, append-nil, so .filled, so .counted)
+  so-end h = rw (so .rest, file-end (siteAt f) (length f) (mostRecords - count) at h, append-nil, so .filled, so .counted)
 
   pub so-full : at < length f → mostRecords ≤ count → contents f ≡ fault TooMany at
   so-full h l =
       let z : mostRecords - count ≡ 0 = omega arith in
-      so .rest ∙ rw (z, walk-full (siteAt f) (length f) at h)
+      so .rest ∙ rw (z, file-full (siteAt f) (length f) at h)
 
   module _ (h : at < length f) (l : count < mostRecords) where
     so-step : contents f ≡ before (so .ss) (onto (siteAt f at) (walkFile (siteAt f) (length f) (mostRecords - (count + 1))))
     so-step =
         let z : mostRecords - count ≡ suc (mostRecords - (count + 1)) = omega arith in
-        so .rest ∙ rw (z, walk-step (siteAt f) (length f) (mostRecords - (count + 1)) at h)
+        so .rest ∙ rw (z, file-step (siteAt f) (length f) (mostRecords - (count + 1)) at h)
 
     so-bad : {rule : Rule} {p : ℕ} → recordAt f at .outcome ≡ Refused rule p → contents f ≡ fault rule p
     unfolding onto
@@ -96,13 +96,13 @@ module _ {f : List ℕ} {rows : List Row} {count at : ℕ} (so : SoFar f rows co
         }
 
 -- a step that the loop takes
-pub record Taken (f : List ℕ) (rows : List Row) (count at : ℕ) (t : Step) : Type 0 where
+pub record StepTaken (f : List ℕ) (rows : List Row) (count at : ℕ) (t : Step) : Type 0 where
   pub so : SoFar f rows count at
   pub inside : at < length f
   pub fewer : count < mostRecords
   pub is : t ≡ stepOf (recordAt f at)
 
-module _ {f : List ℕ} {rows : List Row} {count at : ℕ} {t : Step} (x : Taken f rows count at t) where
+module _ {f : List ℕ} {rows : List Row} {count at : ℕ} {t : Step} (x : StepTaken f rows count at t) where
   pub step-bad : {rule : Rule} {p : ℕ} → t .outcome ≡ Refused rule p → contents f ≡ fault rule p
   step-bad e = so-bad (x .so) (x .inside) (x .fewer) (step-outcome (recordAt f at) (x .is) ∙ e)
 

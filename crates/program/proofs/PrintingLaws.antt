@@ -49,9 +49,9 @@ before-the-end b d r k e = silent b d r (rw e) (λ n q. let z : _≡_ {A = ℕ} 
 -- ---- the report of n bytes
 
 -- a text that is shown whole stands at the front
-in-front : (text d e : List ℕ) (k : ℕ) → k ≡ shownLength text d → e ≡ held text d → take k e ≡ text → (k ≡ length text) × (e ≡ text ++ drop (length text) d)
+shown-whole : (text d e : List ℕ) (k : ℕ) → k ≡ shownLength text d → e ≡ held text d → take k e ≡ text → (k ≡ length text) × (e ≡ text ++ drop (length text) d)
 unfolding outputCount heldAfter
-in-front text d e k n h t = go (roomRule (length text) (length d)) refl
+shown-whole text d e k n h t = go (roomRule (length text) (length d)) refl
   where
     go : (b : Checked) → roomRule (length text) (length d) ≡ b → (k ≡ length text) × (e ≡ text ++ drop (length text) d)
     go Passed b = (rw b at n, rw b at h)
@@ -87,5 +87,5 @@ module _ (b d e : List ℕ) (r : ReadState) (n m k : ℕ) (is : r ≡ Ended n) (
 
   pub after-the-end : Prints b d e r k
   after-the-end =
-      let front = in-front (reportOf (take m b)) d e k answer buffer all in
+      let front = shown-whole (reportOf (take m b)) d e k answer buffer all in
       (inside, (rw (← out-is) (front .0), (rw (← out-is) (front .1), (λ q. let z : _≡_ {A = ℕ} 0 1 = cc in absurd (omega arith), (for-the-file, λ f x. rw (for-the-file f x) (report-says f))))))

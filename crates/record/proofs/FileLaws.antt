@@ -22,18 +22,18 @@ use Rattle.record.proofs.ResultLaws.{not-good, good-same}
 -- ---- a record at a time
 
 module _ {A : Type 0} (read : ℕ → Result (A × ℕ)) (len : ℕ) where
-  pub walk-end : (n at : ℕ) → len ≤ at → walkFile read len n at ≡ good []
+  pub file-end : (n at : ℕ) → len ≤ at → walkFile read len n at ≡ good []
   unfolding walkFile
-  walk-end zero at h = rw (le-leb len at h)
-  walk-end (suc n) at h = rw (le-leb len at h)
+  file-end zero at h = rw (le-leb len at h)
+  file-end (suc n) at h = rw (le-leb len at h)
 
-  pub walk-full : (at : ℕ) → at < len → walkFile read len zero at ≡ fault TooMany at
+  pub file-full : (at : ℕ) → at < len → walkFile read len zero at ≡ fault TooMany at
   unfolding walkFile
-  walk-full at h = rw (lt-leb len at h)
+  file-full at h = rw (lt-leb len at h)
 
-  pub walk-step : (n at : ℕ) → at < len → walkFile read len (suc n) at ≡ onto (read at) (walkFile read len n)
+  pub file-step : (n at : ℕ) → at < len → walkFile read len (suc n) at ≡ onto (read at) (walkFile read len n)
   unfolding walkFile
-  walk-step n at h = rw (lt-leb len at h)
+  file-step n at h = rw (lt-leb len at h)
 
   pub contents-none : (most : ℕ) → len ≤ 0 → contentsBy most read len ≡ fault NoBytes 0
   unfolding contentsBy
@@ -68,18 +68,18 @@ module _ {A : Type 0} where
 
 module _ {A : Type 0} (read : ℕ → Result (A × ℕ)) (len : ℕ) where
   -- P of the list xs that a walk gave: shown for the end, and for a record and what follows it
-  pub walk-by : (P : ℕ → ℕ → List A → Type 0) → ((n at : ℕ) → len ≤ at → P n at [])
+  pub file-by : (P : ℕ → ℕ → List A → Type 0) → ((n at : ℕ) → len ≤ at → P n at [])
       → ((n at : ℕ) (x : A × ℕ) (xs : List A) → at < len → read at ≡ good x → P n (x .1) xs → P (suc n) at (x .0 ∷ xs))
       → (n at : ℕ) (xs : List A) → walkFile read len n at ≡ good xs → P n at xs
   unfolding walkFile
-  walk-by P end more zero at xs e =
+  file-by P end more zero at xs e =
       pick-good (leb len at) (P zero at xs) e (λ t q. subst (P zero at) q (end zero at (leb-true len at t))) (λ t q. not-good q)
-  walk-by P end more (suc n) at xs e =
+  file-by P end more (suc n) at xs e =
       pick-good (leb len at) (P (suc n) at xs) e
       (λ t q. subst (P (suc n) at) q (end (suc n) at (leb-true len at t)))
       (λ t q.
       let o = onto-good (read at) (λ after. walkFile read len n after) xs q in
-      subst (P (suc n) at) (sym (o .is)) (more n at (o .found) (o .rest) (leb-false len at t) (o .reads) (walk-by P end more n (o .found .1) (o .rest) (o .goes-on))))
+      subst (P (suc n) at) (sym (o .is)) (more n at (o .found) (o .rest) (leb-false len at t) (o .reads) (file-by P end more n (o .found .1) (o .rest) (o .goes-on))))
 
   contents-walked : (most : ℕ) (xs : List A) → contentsBy most read len ≡ good xs → walkFile read len most 0 ≡ good xs
   unfolding contentsBy
@@ -93,7 +93,7 @@ module _ {A : Type 0} (read : ℕ → Result (A × ℕ)) (len : ℕ) where
   pub contents-every : (P : A → Type 0) → ((at : ℕ) (x : A × ℕ) → read at ≡ good x → P (x .0))
       → (most : ℕ) (xs : List A) → contentsBy most read len ≡ good xs → (length xs ≤ most) × All P xs
   contents-every P each most xs e =
-      walk-by (λ n at xs. (length xs ≤ n) × All P xs) (λ n at h. (omega arith, none)) (λ n at x xs h r p. (omega (arith, p .0), each at x r ▸ p .1)) most 0 xs (contents-walked most xs e)
+      file-by (λ n at xs. (length xs ≤ n) × All P xs) (λ n at h. (omega arith, none)) (λ n at x xs h r p. (omega (arith, p .0), each at x r ▸ p .1)) most 0 xs (contents-walked most xs e)
 
 -- ---- the file of at most one record
 
@@ -115,7 +115,7 @@ module _ {A : Type 0} (read : ℕ → Result (A × ℕ)) (len : ℕ) (inside : (
       (λ (nothing : len ≤ 0). let z : len ≡ 0 = omega arith in rw (le-leb len 0 nothing, eq-eqb len 0 z))
       (λ (some : 0 < len).
       let z : len ≡ 0 → ⊥ = λ e. omega arith in
-      rw (lt-leb len 0 some, ne-eqb len 0 z, walk-step read len 0 0 some) (only-is (read 0) inside))
+      rw (lt-leb len 0 some, ne-eqb len 0 z, file-step read len 0 0 some) (only-is (read 0) inside))
       (le-or-lt len 0)
 
 -- ---- files that go on past what the walk looks at
@@ -137,19 +137,19 @@ onto-same (good x) c d h = ap (first (x .0)) (h x refl)
 -- a reader that looks at no more than w bytes of a record, and whose records are no longer
 module _ {A : Type 0} (read : List ℕ → ℕ → Result (A × ℕ)) (w : ℕ) (local : (m at : ℕ) (f : List ℕ) → at + w ≤ m → read (take m f) at ≡ read f at)
     (near : (f : List ℕ) (at : ℕ) (x : A × ℕ) → read f at ≡ good x → x .1 ≤ at + w) where
-  walk-take : (f : List ℕ) (m n at : ℕ) → at + (w * n + 1) ≤ m → walkFile (read (take m f)) (length (take m f)) n at ≡ walkFile (read f) (length f) n at
+  file-take : (f : List ℕ) (m n at : ℕ) → at + (w * n + 1) ≤ m → walkFile (read (take m f)) (length (take m f)) n at ≡ walkFile (read f) (length f) n at
   unfolding walkFile
-  walk-take f m zero at h = rw (leb-take at m f (omega arith))
-  walk-take f m (suc n) at h =
+  file-take f m zero at h = rw (leb-take at m f (omega arith))
+  file-take f m (suc n) at h =
       let s : w * suc n ≡ w * n + w = omega arith in
       let same = onto-same (read f at) (λ a. walkFile (read (take m f)) (length (take m f)) n a) (λ a. walkFile (read f) (length f) n a)
-      (λ x e. walk-take f m n (x .1) (omega (arith, near f at x e))) in
+      (λ x e. file-take f m n (x .1) (omega (arith, near f at x e))) in
       rw (leb-take at m f (omega arith), local m at f (omega arith), same)
 
   -- as many records as may come, and a byte more
   pub contents-more : (most : ℕ) (f : List ℕ) (m : ℕ) → w * most + 1 ≤ m → contentsBy most (read (take m f)) (length (take m f)) ≡ contentsBy most (read f) (length f)
   unfolding contentsBy
-  contents-more most f m h = rw (leb-take 0 m f (omega arith), walk-take f m most 0 (omega arith))
+  contents-more most f m h = rw (leb-take 0 m f (omega arith), file-take f m most 0 (omega arith))
 
 -- ---- what was read is written: the file is the records of its values, one after another
 
@@ -158,7 +158,7 @@ module _ {A : Type 0} (read : ℕ → Result (A × ℕ)) (encode : A → List �
   pub contents-written : (most : ℕ) (xs : List A) → contentsBy most read (length f) ≡ good xs → f ≡ each encode xs
   unfolding each
   contents-written most xs e =
-      walk-by read (length f) (λ n at xs. drop at f ≡ each encode xs)
+      file-by read (length f) (λ n at xs. drop at f ≡ each encode xs)
       (λ n at h. drop-of-length-le f {i = at} h)
       (λ n at x xs h r p.
       let b = bytes at x r in
@@ -172,16 +172,16 @@ module _ {A : Type 0} (read : ℕ → Result (A × ℕ)) (encode : A → List �
 module _ {A : Type 0} (read : List ℕ → ℕ → Result (A × ℕ)) (encode : A → List ℕ) (clean : A → A) (Ok : A → Type 0)
     (some : (x : A) → 1 ≤ length (encode x))
     (reads : (x : A) → Ok x → (f : List ℕ) (at : ℕ) (rest : List ℕ) → drop at f ≡ encode x ++ rest → read f at ≡ good (clean x, at + length (encode x))) where
-  walk-read : (f : List ℕ) (xs : List A) → All Ok xs → (n at : ℕ) → length xs ≤ n → drop at f ≡ each encode xs
+  file-read : (f : List ℕ) (xs : List A) → All Ok xs → (n at : ℕ) → length xs ≤ n → drop at f ≡ each encode xs
       → walkFile (read f) (length f) n at ≡ good (map clean xs)
   unfolding each onto first
-  walk-read f [] none n at l e = walk-end (read f) (length f) n at (omega (arith, length-drop at f, ap length e))
-  walk-read f (x ∷ xs) (p ▸ ps) zero at l e = absurd (omega arith)
-  walk-read f (x ∷ xs) (p ▸ ps) (suc n) at l e =
+  file-read f [] none n at l e = file-end (read f) (length f) n at (omega (arith, length-drop at f, ap length e))
+  file-read f (x ∷ xs) (p ▸ ps) zero at l e = absurd (omega arith)
+  file-read f (x ∷ xs) (p ▸ ps) (suc n) at l e =
       let rest = each encode xs in
       let m : length (drop at f) ≡ length (encode x) + length rest = ap length e ∙ length-append (encode x) rest in
       let d : drop (at + length (encode x)) f ≡ rest = sym (drop-drop (length (encode x)) at f) ∙ rw e (drop-at (encode x) rest (length (encode x)) refl) in
-      rw (walk-step (read f) (length f) n at (omega (arith, length-drop at f, some x)), reads x p f at rest e, walk-read f xs ps n (at + length (encode x)) (omega arith) d)
+      rw (file-step (read f) (length f) n at (omega (arith, length-drop at f, some x)), reads x p f at rest e, file-read f xs ps n (at + length (encode x)) (omega arith) d)
 
   pub contents-read : (most : ℕ) (xs : List A) → All Ok xs → 1 ≤ length xs → length xs ≤ most
       → contentsBy most (read (each encode xs)) (length (each encode xs)) ≡ good (map clean xs)
@@ -189,4 +189,4 @@ module _ {A : Type 0} (read : List ℕ → ℕ → Result (A × ℕ)) (encode : 
   contents-read most [] ps h l = absurd (omega arith)
   contents-read most (x ∷ xs) ps h l =
       let f = encode x ++ each encode xs in
-      contents-some (read f) (length f) most (simp length-append (omega (arith, some x))) ∙ walk-read f (x ∷ xs) ps most 0 l refl
+      contents-some (read f) (length f) most (simp length-append (omega (arith, some x))) ∙ file-read f (x ∷ xs) ps most 0 l refl

@@ -1,4 +1,4 @@
-pub mod ContentLaws
+pub mod ValueBytesLaws
 pub mod FieldBytes
 pub mod ResultLaws
 pub mod WalkLaws

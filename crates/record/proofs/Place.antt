@@ -20,7 +20,7 @@ use Rattle.record.specs.Writer.{encode, WritesAgain}
 use Rattle.record.proofs.EncodeLaws.{fields-small}
 use Rattle.record.proofs.ResultLaws.{found-numbers}
 use Rattle.record.proofs.OuterLaws.{site-past}
-use Rattle.record.proofs.RecordLaws.{AcceptedAt, accepted-at, after, inside, near, record-take, record-written, record-read}
+use Rattle.record.proofs.RecordLaws.{AcceptedAt, accepted-at, record-after, record-inside, record-near, record-take, record-written, record-read}
 use Rattle.record.proofs.FirstFaultLaws.{record-fault-near}
 use Rattle.record.proofs.SiteTrips.{walked-passes, walked-clean, encode-read, read-encode}
 
@@ -41,15 +41,15 @@ module _ (f : List ℕ) (at : ℕ) {x : Site × ℕ} (e : siteAt f at ≡ good x
 
   pub site-after : at + 3 ≤ x .1
   unfolding siteAt
-  site-after = after siteTag siteKinds f at e
+  site-after = record-after siteTag siteKinds f at e
 
   pub site-inside : x .1 ≤ length f
   unfolding siteAt
-  site-inside = inside siteTag siteKinds f at e
+  site-inside = record-inside siteTag siteKinds f at e
 
   pub site-near : x .1 ≤ at + mostRecord
   unfolding siteAt
-  site-near = near siteTag siteKinds f at e
+  site-near = record-near siteTag siteKinds f at e
 
   pub site-passes : siteRule (x .0) ≡ Passed
   site-passes = walked-passes _ _ _ (here .walked)
@@ -71,24 +71,24 @@ site-read s z e rest at = record-read siteTag siteKinds siteKind s (clean s) res
 
 -- ---- by what the call gives
 
-found-good : (at : ℕ) (q : Result (Site × ℕ)) → foundOf at q .outcome ≡ Accepted → q ≡ good (foundOf at q .site, foundOf at q .next)
+good-found : (at : ℕ) (q : Result (Site × ℕ)) → foundOf at q .outcome ≡ Accepted → q ≡ good (foundOf at q .site, foundOf at q .next)
 unfolding foundOf
-found-good at (good x) o = refl
-found-good at (fault r i) o = let z : _≡_ {A = ℕ} 0 1 = cc in absurd (omega arith)
+good-found at (good x) o = refl
+good-found at (fault r i) o = let z : _≡_ {A = ℕ} 0 1 = cc in absurd (omega arith)
 
-found-fault : (at : ℕ) (q : Result (Site × ℕ)) {r : Rule} {i : ℕ} → foundOf at q .outcome ≡ Refused r i → q ≡ fault r i
+fault-found : (at : ℕ) (q : Result (Site × ℕ)) {r : Rule} {i : ℕ} → foundOf at q .outcome ≡ Refused r i → q ≡ fault r i
 unfolding foundOf
-found-fault at (good x) o = let z : _≡_ {A = ℕ} 0 1 = cc in absurd (omega arith)
-found-fault at (fault r i) o = cc
+fault-found at (good x) o = let z : _≡_ {A = ℕ} 0 1 = cc in absurd (omega arith)
+fault-found at (fault r i) o = cc
 
 module _ (f : List ℕ) (at : ℕ) where
   pub record-good : recordAt f at .outcome ≡ Accepted → siteAt f at ≡ good (recordAt f at .site, recordAt f at .next)
   unfolding recordAt
-  record-good o = found-good at (siteAt f at) o
+  record-good o = good-found at (siteAt f at) o
 
   pub record-fault : {r : Rule} {i : ℕ} → recordAt f at .outcome ≡ Refused r i → siteAt f at ≡ fault r i
   unfolding recordAt
-  record-fault o = found-fault at (siteAt f at) o
+  record-fault o = fault-found at (siteAt f at) o
 
   -- the reader's promises follow from its answer
   pub found-answers : (x : Found) → AllBytes f → x ≡ recordAt f at

@@ -130,14 +130,14 @@ module _ {A : Type 0} (known : ℕ → Bool) (kind : ℕ → Kind A) where
     pub accepted-at : AcceptedAt (drop at f) at x
     accepted-at = accepted-in (drop at f) at e
 
-    pub after : at + 3 ≤ x .1
-    after = omega (arith, accepted-at .next-is)
+    pub record-after : at + 3 ≤ x .1
+    record-after = omega (arith, accepted-at .next-is)
 
-    pub inside : x .1 ≤ length f
-    inside = omega (arith, accepted-at .next-is, accepted-at .outer .inside, accepted-at .outer .room, length-drop at f)
+    pub record-inside : x .1 ≤ length f
+    record-inside = omega (arith, accepted-at .next-is, accepted-at .outer .inside, accepted-at .outer .room, length-drop at f)
 
-    pub near : x .1 ≤ at + mostRecord
-    near = omega (arith, accepted-at .next-is, accepted-at .outer .small)
+    pub record-near : x .1 ≤ at + mostRecord
+    record-near = omega (arith, accepted-at .next-is, accepted-at .outer .small)
 
     -- it is written again byte for byte, if its fields are
     pub record-written : AllBytes f → (K : Kind A) → kind (getD (drop at f) 0 0) ≡ K → K .tag ≡ getD (drop at f) 0 0

@@ -37,15 +37,15 @@ module _ (s : Site) (z : Sized s) (old : List ℕ) where
       × ((writtenNumbers w ≡ outputNumbers rule (length (encode s)))
       × ((n : ℕ) → w ≡ Count n → readRecord (take n new) ≡ accepted (clean s))))
 
-  read-again : (c : Checked) → rule ≡ c → (n : ℕ) → writeAnswer c (length (encode s)) ≡ Count n → readRecord (take n (heldAfter c (encode s) old)) ≡ accepted (clean s)
+  is-read-again : (c : Checked) → rule ≡ c → (n : ℕ) → writeAnswer c (length (encode s)) ≡ Count n → readRecord (take n (heldAfter c (encode s) old)) ≡ accepted (clean s)
   unfolding outputRule answerIf heldAfter
-  read-again Passed e n w =
+  is-read-again Passed e n w =
       let l : length (encode s) ≡ n = cc in
       rw (take-at (encode s) (drop (length (encode s)) old) n l) (read-written s z (both-passed _ _ e .0))
-  read-again (Broken r) e n w = let q : _≡_ {A = ℕ} 0 1 = cc in absurd (omega arith)
+  is-read-again (Broken r) e n w = let q : _≡_ {A = ℕ} 0 1 = cc in absurd (omega arith)
 
   promised : (w : Written) (new : List ℕ) → w ≡ writeAnswer rule (length (encode s)) → new ≡ heldAfter rule (encode s) old → Promises w new
-  promised w new a e = (a, (e, (ap writtenNumbers a ∙ answer-numbers rule (length (encode s)), λ n q. rw e (read-again rule refl n (sym a ∙ q)))))
+  promised w new a e = (a, (e, (ap writtenNumbers a ∙ answer-numbers rule (length (encode s)), λ n q. rw e (is-read-again rule refl n (sym a ∙ q)))))
 
   pub write-broken : (r : Rule) → siteRule s ≡ Broken r → Promises (Refused r 0) old
   unfolding answerIf heldAfter

@@ -86,8 +86,8 @@ pub read-fault-near : (f : List ℕ) {rule : Rule} {at : ℕ} → readRecord f .
 unfolding readRecord
 read-fault-near f o = single-fault-near f (refused-fault (onlySite f) o)
 
-pub answered : (f : List ℕ) (r : Read) → AllBytes f → r ≡ readRecord f
+pub read-answers : (f : List ℕ) (r : Read) → AllBytes f → r ≡ readRecord f
     → (r ≡ readRecord f) × ((outcomeNumbers (r .outcome) ≡ resultNumbers (onlySite f)) × (r .outcome ≡ Accepted → WritesAgain (r .site) f))
 unfolding readRecord
-answered f r b e =
+read-answers f r b e =
     (e, (ap (λ (x : Read). outcomeNumbers (x .outcome)) e ∙ read-numbers (onlySite f), λ o. writes-again (r .site) f (sym e ∙ accepted-is r o) b))

@@ -18,7 +18,7 @@ use Rattle.site.specs.declared.Checked.the-variants.{Passed, Broken}
 use Rattle.site.specs.Choice.{pick}
 use Rattle.field.specs.Field.{store, taken, siteKind}
 use Rattle.field.specs.declared.Taken.{Taken}
-use Rattle.field.proofs.KindLaws.{field-passed}
+use Rattle.field.proofs.KindLaws.{parts-passed}
 use Rattle.field.proofs.TakenLaws.{taken-site}
 use Rattle.site.proofs.Passing.{pass-else, pass-then}
 use Rattle.record.specs.Result.{good, fault, unless}
@@ -108,12 +108,12 @@ module _ {A : Type 0} (K : Kind A) where
       let p = end-good (eqb (length bs) 0) x s at e in
       (p .1, eqb-true (length bs) 0 (p .0))
 
-  pub record Step (t : ℕ) (ts : List ℕ) (x s : A) (bs : List ℕ) (at : ℕ) : Type 0 where
+  pub record FieldStep (t : ℕ) (ts : List ℕ) (x s : A) (bs : List ℕ) (at : ℕ) : Type 0 where
     pub head : HeadOk t bs
     pub passed : fieldRule K t (valueAt bs) x ≡ Passed
     pub more : walkFields K ts (K .store t (valueAt bs) x) (restAt bs) (at + (3 + statedLen bs)) ≡ good s
 
-  pub walk-some : (t : ℕ) (ts : List ℕ) (x s : A) (bs : List ℕ) (at : ℕ) → walkFields K (t ∷ ts) x bs at ≡ good s → Step t ts x s bs at
+  pub walk-some : (t : ℕ) (ts : List ℕ) (x s : A) (bs : List ℕ) (at : ℕ) → walkFields K (t ∷ ts) x bs at ≡ good s → FieldStep t ts x s bs at
   unfolding walkFields
   walk-some t ts x s bs at e =
       let p = unless-good (headRule t bs) at _ e in
@@ -137,6 +137,6 @@ module _ (ds : List ℕ) (k : ℕ) (inside : k < length ds) (s : Site) (bs : Lis
   pub site-next : x .checked ≡ Passed
       → walkFields siteKind (drop k ds) s bs at ≡ walkFields siteKind (drop (k + 1) ds) (x .site) (take (length bs - end) (drop end bs)) (at + end)
   site-next e =
-      let p = field-passed siteKind (getD ds k 0) (valueAt bs) s (sym said ∙ e) in
+      let p = parts-passed siteKind (getD ds k 0) (valueAt bs) s (sym said ∙ e) in
       let site : x .site ≡ store (getD ds k 0) (valueAt bs) s = ap (λ (y : Taken). y .site) took-value ∙ taken-site (getD ds k 0) (valueAt bs) s (p .0) in
       walk-next siteKind ds k inside s bs at ok (sym said ∙ e) (x .site) site end isEnd

@@ -1,6 +1,6 @@
 pub mod Result
 pub mod FieldParts
-pub mod Content
+pub mod ValueBytes
 pub mod Fields
 pub mod Records
 pub mod ReadAnswers

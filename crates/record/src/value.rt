@@ -5,7 +5,7 @@ ghost use lib.Dec.{leb};
 ghost use lib.ListN.{take};
 ghost use Rattle.site.specs.Choice.{pick};
 ghost use Rattle.field.specs.Field.{value, wordBytes, entriesBytes};
-ghost use Rattle.record.specs.Content.{Holds};
+ghost use Rattle.record.specs.ValueBytes.{Holds};
 use crate::halves::hi;
 use crate::halves::lo;
 use site::Entry;
@@ -13,7 +13,7 @@ use site::Site;
 use site::wide;
 
 // The first `len` of `bytes`; what stands behind them has no meaning.
-pub struct Content {
+pub struct ValueBytes {
     pub bytes: [u8; 16],
     pub len: usize,
 }
@@ -29,12 +29,12 @@ fn at_most(n: u8, most: usize) -> usize
     most
 }
 
-fn name_value(name: [u8; 8], n: u8) -> Content
+fn name_value(name: [u8; 8], n: u8) -> ValueBytes
     ensures { λ r. ⌜ Holds (r .bytes) (r .len) (take n name) ⌝ }
 {
     let b = name;
     let len = at_most(n, 8);
-    Content {
+    ValueBytes {
         bytes: [
             b[0],
             b[1],
@@ -57,7 +57,7 @@ fn name_value(name: [u8; 8], n: u8) -> Content
     }
 }
 
-fn stand_value(stand: [Entry; 4], n: u8) -> Content
+fn stand_value(stand: [Entry; 4], n: u8) -> ValueBytes
     ensures { λ r. ⌜ Holds (r .bytes) (r .len) (entriesBytes (take n stand)) ⌝ }
 {
     let a = stand[0];
@@ -65,7 +65,7 @@ fn stand_value(stand: [Entry; 4], n: u8) -> Content
     let c = stand[2];
     let d = stand[3];
     let len = 4 * at_most(n, 4);
-    Content {
+    ValueBytes {
         bytes: [
             a.species,
             a.share,
@@ -88,39 +88,39 @@ fn stand_value(stand: [Entry; 4], n: u8) -> Content
     }
 }
 
-fn no_bytes() -> Content
+fn no_bytes() -> ValueBytes
     ensures { λ r. ⌜ Holds (r .bytes) (r .len) [] ⌝ }
 {
-    Content {
+    ValueBytes {
         bytes: [0u8; 16],
         len: 0,
     }
 }
 
-fn one_byte(x: u8) -> Content
+fn one_byte(x: u8) -> ValueBytes
     ensures { λ r. ⌜ Holds (r .bytes) (r .len) (x ∷ []) ⌝ }
 {
     let mut bytes = [0u8; 16];
     bytes[0] = x;
-    Content { bytes, len: 1 }
+    ValueBytes { bytes, len: 1 }
 }
 
-fn two_bytes(x: u8, y: u8) -> Content
+fn two_bytes(x: u8, y: u8) -> ValueBytes
     ensures { λ r. ⌜ Holds (r .bytes) (r .len) (x ∷ y ∷ []) ⌝ }
 {
     let mut bytes = [0u8; 16];
     bytes[0] = x;
     bytes[1] = y;
-    Content { bytes, len: 2 }
+    ValueBytes { bytes, len: 2 }
 }
 
-fn one_word(x: u16) -> Content
+fn one_word(x: u16) -> ValueBytes
     ensures { λ r. ⌜ Holds (r .bytes) (r .len) (wordBytes x) ⌝ }
 {
     two_bytes(hi(x), lo(x))
 }
 
-fn two_words(x: u16, y: u16) -> Content
+fn two_words(x: u16, y: u16) -> ValueBytes
     ensures { λ r. ⌜ Holds (r .bytes) (r .len) (wordBytes x ++ wordBytes y) ⌝ }
 {
     let mut bytes = [0u8; 16];
@@ -128,10 +128,10 @@ fn two_words(x: u16, y: u16) -> Content
     bytes[1] = lo(x);
     bytes[2] = hi(y);
     bytes[3] = lo(y);
-    Content { bytes, len: 4 }
+    ValueBytes { bytes, len: 4 }
 }
 
-pub fn value_of(site: Site, tag: u8) -> Content
+pub fn value_of(site: Site, tag: u8) -> ValueBytes
     ensures { λ r. ⌜ Holds (r .bytes) (r .len) (value tag site) ⌝ }
 {
     match tag {

@@ -9,7 +9,7 @@ use Rattle.site.specs.Ranges.{mostRecords}
 use Rattle.record.specs.File.{contents}
 use Rattle.listing.specs.Rows.{padded}
 use Rattle.record.proofs.SiteFile.{sites-none}
-use Rattle.listing.proofs.LoopLaws.{SoFar, Taken, so-start, so-end, so-full, step-bad, step-good, step-on, with-numbers, with-fault}
+use Rattle.listing.proofs.LoopLaws.{SoFar, StepTaken, so-start, so-end, so-full, step-bad, step-good, step-on, with-numbers, with-fault}
 use Rattle.listing.proofs.walking.walk_file.Statement.{statement}
 use Rattle.listing.proofs.walking.walk_file.Tie as tie
 
@@ -52,7 +52,7 @@ abbrev at-loop : tie.After-step Inv-loop μ-loop → tie.At-loop Inv-loop μ-loo
 at-loop t = t .before .before .before
 
 taken : (t : tie.After-step Inv-loop μ-loop)
-    → Taken (now (at-loop t .before .before .before .before .args .file)) (at-loop t .loop .rows) (at-loop t .loop .count) (at-loop t .loop .at) (t .step .result)
+    → StepTaken (now (at-loop t .before .before .before .before .args .file)) (at-loop t .loop .rows) (at-loop t .loop .count) (at-loop t .loop .at) (t .step .result)
 taken t = record { so = at-loop t .loop .inv .3; inside = t .before .before .loop-test .taken; fewer = t .before .if2 .left; is = t .step .ensures }
 
 returns-3 : tie.Need-returns-3 Inv-loop μ-loop

@@ -2,7 +2,7 @@ use mathlib.Core.Path.{sym, _∙_}
 use native.Mathlib.Omega.{arith}
 use borrow.Author.Needs.{needs}
 use Rattle.record.proofs.OuterLaws.{read-none, read-some}
-use Rattle.record.proofs.RoundTrip.{answered}
+use Rattle.record.proofs.RoundTrip.{read-answers}
 use Rattle.record.proofs.outer.read_record.Statement.{statement}
 use Rattle.record.proofs.outer.read_record.Tie as tie
 
@@ -10,7 +10,7 @@ refused-read-requires : tie.Need-refused-read-requires
 refused-read-requires c κs = search needs
 
 returns : tie.Need-returns
-returns c = answered _ _ (λ i. omega (arith, c .before .before .shared-slice-known .given i)) (c .refused-read .ensures ∙ sym (read-none _ (c .before .if1 .taken)))
+returns c = read-answers _ _ (λ i. omega (arith, c .before .before .shared-slice-known .given i)) (c .refused-read .ensures ∙ sym (read-none _ (c .before .if1 .taken)))
 
 read-at-requires : tie.Need-read-at-requires
 read-at-requires c κs = search needs
@@ -19,7 +19,7 @@ only-one-requires : tie.Need-only-one-requires
 only-one-requires c κs = search needs
 
 returns-2 : tie.Need-returns-2
-returns-2 c = answered _ _ (λ i. omega (arith, c .before .before .before .shared-slice-known .given i)) (read-some _ (c .before .before .if1 .left) _ _ (c .before .read-at .ensures .0) (c .only-one .ensures))
+returns-2 c = read-answers _ _ (λ i. omega (arith, c .before .before .before .shared-slice-known .given i)) (read-some _ (c .before .before .if1 .left) _ _ (c .before .read-at .ensures .0) (c .only-one .ensures))
 
 pub read-record-spec : {M : Type 1} → statement M
 read-record-spec =

@@ -5,7 +5,7 @@ use lib.ListN.{length, take}
 use lib.Seq.{length-take-le}
 use borrow.Author.Needs.{needs}
 use Rattle.site.specs.Bytes.{tabulate}
-use Rattle.record.proofs.ContentLaws.{nameBytes, name-value, capped}
+use Rattle.record.proofs.ValueBytesLaws.{nameBytes, name-value, capped}
 use Rattle.record.proofs.value.name_value.Statement.{statement}
 use Rattle.record.proofs.value.name_value.Tie as tie
 

@@ -8,7 +8,7 @@ use Rattle.site.specs.declared.Entry.{Entry}
 use borrow.Author.Needs.{needs}
 use Rattle.site.specs.Bytes.{tabulate}
 use Rattle.field.specs.Field.{entriesBytes}
-use Rattle.record.proofs.ContentLaws.{stand-value, capped}
+use Rattle.record.proofs.ValueBytesLaws.{stand-value, capped}
 use Rattle.field.proofs.EntryLaws.{length-entries}
 use Rattle.record.proofs.value.stand_value.Statement.{statement}
 use Rattle.record.proofs.value.stand_value.Tie as tie

@@ -1,7 +1,7 @@
 use borrow.Author.Needs.{needs}
 use Rattle.site.proofs.MatchLaws.{none-below}
 use Rattle.field.specs.Field.{value}
-use Rattle.record.proofs.ContentLaws.{no-value}
+use Rattle.record.proofs.ValueBytesLaws.{no-value}
 use Rattle.record.proofs.value.value_of.Statement.{statement}
 use Rattle.record.proofs.value.value_of.Tie as tie
 
