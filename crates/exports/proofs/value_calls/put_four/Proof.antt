@@ -1,3 +1,4 @@
+-- Four stores in a row are one run of stores.
 use Prim.Native.Nat.{ℕ}
 use native.Mathlib.Omega.{arith}
 use mathlib.Core.Path.{_≡_}

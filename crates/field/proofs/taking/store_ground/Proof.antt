@@ -1,3 +1,4 @@
+-- At each tag the site with the new value is the definition's, and the rule that was asked is its own.
 use native.Mathlib.Omega.{arith}
 use borrow.Author.Needs.{needs}
 use Rattle.site.proofs.MatchLaws.{none-left}

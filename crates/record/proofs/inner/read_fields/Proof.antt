@@ -1,3 +1,4 @@
+-- The loop's invariant: after k fields the definition's walk over all of them goes on from the site so far, at the bytes that are left.
 use mathlib.Core.Path.{_≡_, refl, sym, _∙_}
 use Prim.Native.Nat.{_+_, _-_, _≤_}
 use native.Mathlib.Omega.{arith}
@@ -21,15 +22,22 @@ Inv-loop part base site₀ rest₀ at₀ k₀ site rest at k = (k ≤ 15) × (at
 abbrev μ-loop : tie.MeasureT-loop
 μ-loop part base site₀ rest₀ at₀ k₀ site rest at k = 15 - k
 
-head-is : (c : tie.After-enum-told Inv-loop μ-loop) → headRule (getD due (c .before .before .before .before .before .loop .k) 0) (c .before .before .before .before .before .loop .rest .now) ≡ Passed
+-- the loop's test, seen from after the head has passed; and the site's field that is then taken
+abbrev at-loop : tie.After-enum-told Inv-loop μ-loop → tie.At-loop Inv-loop μ-loop
+at-loop c = c .before .before .before .before .before
+
+abbrev head-told : tie.After-take-field Inv-loop μ-loop → tie.After-enum-told Inv-loop μ-loop
+head-told c = c .before .before .before
+
+head-is : (c : tie.After-enum-told Inv-loop μ-loop) → headRule (getD due (at-loop c .loop .k) 0) (at-loop c .loop .rest .now) ≡ Passed
 head-is c =
     let h = c .before .before in
     rw (h .before .due-tag .ensures) at (sym (h .head-rule .ensures) ∙ c .enum-told .given .1)
 
-ok : (c : tie.After-enum-told Inv-loop μ-loop) → HeadOk (getD due (c .before .before .before .before .before .loop .k) 0) (c .before .before .before .before .before .loop .rest .now)
+ok : (c : tie.After-enum-told Inv-loop μ-loop) → HeadOk (getD due (at-loop c .loop .k) 0) (at-loop c .loop .rest .now)
 ok c = head-passed _ _ (head-is c)
 
-end-is : (c : tie.After-stated-len Inv-loop μ-loop) → 3 + c .stated-len .result ≡ 3 + statedLen (c .before .before .before .before .before .before .loop .rest .now)
+end-is : (c : tie.After-stated-len Inv-loop μ-loop) → 3 + c .stated-len .result ≡ 3 + statedLen (at-loop (c .before) .loop .rest .now)
 end-is c = omega arith
 
 blank-requires : tie.Need-blank-requires Inv-loop μ-loop
@@ -87,7 +95,7 @@ refused-read-requires-2 c κs = search needs
 returns-2 : tie.Need-returns-2 Inv-loop μ-loop
 returns-2 c =
     let f = c .before .before .before .before in
-    let e = f .before .before .before in
+    let e = head-told f in
     let t = e .before .before .before in
     let i = t .before in
     let x = rw (t .due-tag .ensures) at (f .take-field .ensures .0) in
@@ -99,16 +107,16 @@ enum-told-2 : tie.Need-enum-told-2 Inv-loop μ-loop
 enum-told-2 c = search needs
 
 sub-rest : tie.Need-sub-rest Inv-loop μ-loop
-sub-rest c = omega (arith, ok (c .before .before .before .before .before .before) .inside)
+sub-rest c = omega (arith, ok (head-told (c .before .before .before)) .inside)
 
 part-rest-start : tie.Need-part-rest-start Inv-loop μ-loop
-part-rest-start c = omega (arith, ok (c .before .before .before .before .before .before) .inside)
+part-rest-start c = omega (arith, ok (head-told (c .before .before .before)) .inside)
 
 part-rest-end : tie.Need-part-rest-end Inv-loop μ-loop
 part-rest-end c = search needs
 
 add-at : tie.Need-add-at Inv-loop μ-loop
-add-at c = omega (arith, ok (c .before .before .before .before .before .before .before) .inside)
+add-at c = omega (arith, ok (head-told (c .before .before .before .before)) .inside)
 
 add-k : tie.Need-add-k Inv-loop μ-loop
 add-k c = search needs
@@ -119,7 +127,7 @@ loop-less c = search needs
 loop-again : tie.Need-loop-again Inv-loop μ-loop
 loop-again c =
     let f = c .before .before .before .before in
-    let e = f .before .before .before in
+    let e = head-told f in
     let t = e .before .before .before in
     let i = t .before in
     let x = rw (t .due-tag .ensures) at (f .take-field .ensures .0) in (

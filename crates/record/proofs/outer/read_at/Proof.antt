@@ -1,3 +1,4 @@
+-- A broken outer field ends the reading; one that passes lies within the file, and so do the fields inside it.
 use mathlib.Core.Path.{_≡_, sym, _∙_}
 use Prim.Native.Nat.{_+_, _≤_}
 use native.Mathlib.Omega.{arith}
@@ -15,15 +16,19 @@ use Rattle.record.proofs.Place.{found-answers}
 use Rattle.record.proofs.outer.read_at.Statement.{statement}
 use Rattle.record.proofs.outer.read_at.Tie as tie
 
-passed : (c : tie.After-enum-told) → outerRule siteTag (drop (c .before .before .before .before .args .at) (now (c .before .before .before .before .args .file))) ≡ Passed
+-- the function's entry, seen from after the outer field has passed
+abbrev entry : tie.After-enum-told → tie.Start
+entry c = c .before .before .before .before
+
+passed : (c : tie.After-enum-told) → outerRule siteTag (drop (entry c .args .at) (now (entry c .args .file))) ≡ Passed
 passed c = sym (c .before .before .outer-rule .ensures) ∙ c .enum-told .given .1
 
-front-inside : (c : tie.After-enum-told) → let a = c .before .before .before .before .args in
+front-inside : (c : tie.After-enum-told) → let a = entry c .args in
     a .at + 3 + statedLen (drop (a .at) (now (a .file))) ≤ length (now (a .file))
 front-inside c = outer-inside _ _ (passed c)
 
 stated : (c : tie.After-stated-len)
-    → c .stated-len .result ≡ statedLen (drop (c .before .before .before .before .before .before .args .at) (now (c .before .before .before .before .before .before .args .file)))
+    → c .stated-len .result ≡ statedLen (drop (entry (c .before .before) .args .at) (now (entry (c .before .before) .args .file)))
 stated c = rw rest-all at (c .stated-len .ensures .0)
 
 bytes : (c : tie.After-shared-slice-known) → AllBytes (now (c .before .args .file))

@@ -1,3 +1,4 @@
+-- The loop's invariant: the first k fields stand in the buffer, one after another.
 use Prim.Native.Nat.{_-_, _≤_}
 use mathlib.Core.Path.{_≡_, refl}
 use native.Mathlib.Omega.{arith}

@@ -1,3 +1,4 @@
+-- The bytes of four entries, of which the first n are the value.
 use mathlib.Core.Path.{_≡_, sym, ap, _∙_}
 use mathlib.Core.List.{List}
 use Prim.Native.Nat.{ℕ, _*_, _≤_}

@@ -1,3 +1,4 @@
+-- Each tag's value is the one that its function has made; a tag that the match does not name has none.
 use borrow.Author.Needs.{needs}
 use Rattle.site.proofs.MatchLaws.{none-below}
 use Rattle.field.specs.Field.{value}

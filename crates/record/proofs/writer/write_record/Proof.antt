@@ -16,12 +16,16 @@ use Rattle.record.proofs.writer.write_record.Tie as tie
 sized : (c : tie.Start) → Sized (c .args .site)
 sized c = record { name = search needs; stand = search (needs, unmapped) }
 
-passed : (c : tie.After-enum-told) → siteRule (c .before .before .before .before .args .site) ≡ Passed
+-- the function's entry, seen from after the check has passed
+abbrev entry : tie.After-enum-told → tie.Start
+entry c = c .before .before .before .before
+
+passed : (c : tie.After-enum-told) → siteRule (entry c .args .site) ≡ Passed
 passed c = sym (c .before .before .check-site .ensures .0) ∙ c .enum-told .given .1
 
-long : (c : tie.After-body-len) → length (encode (c .before .before .before .before .before .args .site)) ≡ 3 + c .body-len .result
+long : (c : tie.After-body-len) → length (encode (entry (c .before) .args .site)) ≡ 3 + c .body-len .result
 long c =
-    record-length _ (sized (c .before .before .before .before .before)) (passed (c .before)) ∙ ap (λ (n : ℕ). 3 + n) (sym (c .body-len .ensures .0))
+    record-length _ (sized (entry (c .before))) (passed (c .before)) ∙ ap (λ (n : ℕ). 3 + n) (sym (c .body-len .ensures .0))
 
 check-site-requires : tie.Need-check-site-requires
 check-site-requires c κs = search needs
@@ -42,7 +46,7 @@ add-if1 : tie.Need-add-if1
 add-if1 c = search needs
 
 returns-2 : tie.Need-returns-2
-returns-2 c = write-short _ (sized (c .before .before .before .before .before .before)) _ (passed (c .before .before)) (omega (arith, long (c .before)))
+returns-2 c = write-short _ (sized (entry (c .before .before))) _ (passed (c .before .before)) (omega (arith, long (c .before)))
 
 put-record-requires : tie.Need-put-record-requires
 put-record-requires c κs = (long (c .before .before), omega arith, omega (arith, long (c .before .before)))
@@ -52,7 +56,9 @@ same-length c = search needs
 
 returns-3 : tie.Need-returns-3
 returns-3 c =
-    write-whole _ (sized (c .before .before .before .before .before .before .before .before .before .before)) _ (passed (c .before .before .before .before .before .before)) (omega (arith, long (c .before .before .before .before .before))) (c .before .before .put-record .ensures)
+    let measured = c .before .before .before .before .before in
+    let told = measured .before in
+    write-whole _ (sized (entry told)) _ (passed told) (omega (arith, long measured)) (c .before .before .put-record .ensures)
 
 pub write-record-spec : {M : Type 1} → statement M
 write-record-spec =

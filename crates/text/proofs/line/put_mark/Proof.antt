@@ -28,8 +28,9 @@ same-length c = search needs
 returns : tie.Need-returns
 unfolding spaced verdictWord
 returns c =
-    let e = c .before .before .before .before .before .enum-told .given .1 in
-    rw e (c .before .before .put-bytes .ensures .fits (rw e at (c .before .before .before .before .before .before .before .before .pre)))
+    let told = c .before .before .before .before .before in
+    let e = told .enum-told .given .1 in
+    rw e (c .before .before .put-bytes .ensures .fits (rw e at (told .before .before .before .pre)))
 
 same-length-2 : tie.Need-same-length-2
 same-length-2 c = search needs
@@ -37,8 +38,9 @@ same-length-2 c = search needs
 returns-2 : tie.Need-returns-2
 unfolding spaced verdictWord
 returns-2 c =
-    let e = c .before .before .before .before .before .enum-told2 .given .1 in
-    rw e (c .before .before .put-bytes2 .ensures .fits (rw e at (c .before .before .before .before .before .before .before .before .pre)))
+    let told = c .before .before .before .before .before in
+    let e = told .enum-told2 .given .1 in
+    rw e (c .before .before .put-bytes2 .ensures .fits (rw e at (told .before .before .before .pre)))
 
 pub put-mark-spec : {M : Type 1} → statement M
 put-mark-spec =

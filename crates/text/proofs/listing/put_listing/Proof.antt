@@ -1,3 +1,4 @@
+-- The header and the lines are put one after another, and their lengths add up to what was asked of the buffer.
 use Prim.Native.Nat.{ℕ, _≤_}
 use mathlib.Core.Path.{_≡_, sym, ap, _∙_}
 use mathlib.Core.Logic.{⊎-elim}

@@ -1,3 +1,4 @@
+-- The line's five parts are put one after another, and their lengths add up to what was asked of the buffer.
 use Prim.Native.Nat.{_+_, _≤_, _<_}
 use mathlib.Core.Path.{_≡_}
 use native.Mathlib.Omega.{arith}
