@@ -5,7 +5,24 @@
  * for forest_loads and forest_judge, and 0 for forest_check. From 2^32 on it is a refusal: rule number * 2^32 + offset.
  * A refusal alters no byte of the lent buffer; a success alters the first `count` elements alone.
  *
- * A site value is 50 bytes, numbers of two bytes high byte first:
+ *   Refusal                                                                            Offset
+ *    1  no bytes                                                                       0
+ *    2  outer field cut: under 3 bytes, or length above 255 or beyond the end          the outer field
+ *    3  outer tag not 52 (hexadecimal)                                                 the outer field
+ *    4  bytes after the 500th record, or after a single one                            the first byte left over
+ *    5  inner field cut: under 3 bytes, or length beyond its record                    the field
+ *    6  another tag than the next due, none left, or bytes after 0F (hexadecimal)      the byte, or the record's end
+ *    7  length, or count of entries, not permitted                                     the field
+ *    8  value out of range                                                             the field
+ *    9  species not rising                                                             the field
+ *   10  shares not 100                                                                 the field
+ *   11  lent buffer shorter than the output                                            0
+ *
+ * Offsets count bytes from the start of the file or record; of a site value each is 0. The first fault from the left is
+ * given, and 11 only where there is no other. A field is a tag, a length of two bytes, a value; a record is an outer field
+ * whose value is the fields 01 to 0F (hexadecimal), each once, rising; a file is 1 to 500 records.
+ *
+ * A site value is 50 bytes, numbers of two bytes high byte first; `count`, `length`, ranges and units are those of a record:
  *
  *    0  name, 8 bytes            8  length of the name       9  parent material
  *   10  clay                    11  sand                    12  root depth
@@ -20,6 +37,7 @@
  * What a call asks:
  *   - a pointer is valid for its length: its elements may be read, those of `out` written, and nothing else writes them
  *     until the call returns. A pointer of length 0 is not followed, and may be null;
+ *   - a length counts elements: bytes, or numbers of type uint64_t;
  *   - `uint64_t *out` is aligned for uint64_t;
  *   - input and output do not overlap;
  *   - the stack given below, in whole KiB. No proof bounds it: it is measured (docs/src/compare/stack) on the library of
@@ -34,14 +52,19 @@
 #include <stddef.h>
 #include <stdint.h>
 
-/* The listing of a file of records. Stack: 107 KiB. */
+#ifdef __cplusplus
+extern "C" {
+#endif
+
+/* The listing of a file of records. A buffer of FOREST_MOST_TEXT bytes is always long enough. Stack: 107 KiB. */
 uint64_t forest_list(const uint8_t *file, size_t file_len, uint8_t *out, size_t out_len);
 
-/* What the program prints for a file: the listing, or the line `refused N at M`. 11 alone is a refusal here.
- * Stack: 107 KiB. */
+/* What the program prints for a file: the listing, or the line `refused N at M`. 11 alone is a refusal here, and does not
+ * come with a buffer of FOREST_MOST_TEXT bytes. Stack: 107 KiB. */
 uint64_t forest_report(const uint8_t *file, size_t file_len, uint8_t *out, size_t out_len);
 
-/* A single record, read and written again. Stack: 1 KiB. */
+/* A single record, read and written again: a buffer as long as the record, at most FOREST_MOST_RECORD bytes, is long enough.
+ * Stack: 1 KiB. */
 uint64_t forest_rewrite(const uint8_t *record, size_t record_len, uint8_t *out, size_t out_len);
 
 /* The check of a site value: 0, or the first rule it breaks. Stack: 1 KiB. */
@@ -50,8 +73,16 @@ uint64_t forest_check(const uint8_t *site, size_t site_len);
 /* Four numbers: CLmaxS, CLminN, CLmaxN, CLnutN. Stack: 1 KiB. */
 uint64_t forest_loads(const uint8_t *site, size_t site_len, uint64_t *out, size_t out_len);
 
-/* Eight numbers: the four loads, region, acid exceedance, nutrient exceedance, mark (0 within, 1 over).
+/* Eight numbers: the four loads, region (0 to 4), acid exceedance, nutrient exceedance, mark (0 within, 1 over).
  * Stack: 1 KiB. */
 uint64_t forest_judge(const uint8_t *site, size_t site_len, uint64_t *out, size_t out_len);
+
+/* The greatest length of a listing or a report, and of a record that is accepted. */
+#define FOREST_MOST_TEXT 81551
+#define FOREST_MOST_RECORD 258
+
+#ifdef __cplusplus
+}
+#endif
 
 #endif

@@ -14,7 +14,7 @@ use Rattle.output.proofs.OutputLaws.{count-is, refused-at-0}
 use Rattle.exports.specs.Codes.{codeBase, writtenCode, Decodes}
 
 -- 01's numbers are 1 to 11
-number-range : (r : Rule) → (1 ≤ ruleNumber r) × (ruleNumber r ≤ 11)
+pub number-range : (r : Rule) → (1 ≤ ruleNumber r) × (ruleNumber r ≤ 11)
 number-range NoBytes = (omega arith, omega arith)
 number-range OuterCut = (omega arith, omega arith)
 number-range OuterTag = (omega arith, omega arith)
@@ -26,10 +26,6 @@ number-range OutOfRange = (omega arith, omega arith)
 number-range NotRising = (omega arith, omega arith)
 number-range SharesNotWhole = (omega arith, omega arith)
 number-range BufferShort = (omega arith, omega arith)
-
--- so the code of one fits
-pub number-fits : (r : Rule) {n : ℕ} → n ≡ ruleNumber r → n ≤ 11
-number-fits r e = omega (arith, number-range r .1)
 
 -- a number below 2³² is a count
 pub count-below : (l : Written) {r : ℕ} → r ≡ writtenCode l → r < codeBase → l ≡ Count r

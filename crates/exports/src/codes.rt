@@ -6,19 +6,17 @@ use output::Written;
 use site::Rule;
 use site::rule_number;
 
+pub fn refusal_code(rule: Rule, at: usize) -> u64
+    ensures { λ r. ⌜ r ≡ writtenCode (Refused rule at) ⌝ }
+{
+    rule_number(rule) * 4_294_967_296 + (at % 4_294_967_296) as u64
+}
+
 pub fn written_code(written: Written) -> u64
     ensures { λ r. ⌜ r ≡ writtenCode written ⌝ }
 {
     match written {
         Written::Count(n) => n as u64,
-        Written::Refused { rule, at } => {
-            rule_number(rule) * 4_294_967_296 + (at % 4_294_967_296) as u64
-        }
+        Written::Refused { rule, at } => refusal_code(rule, at),
     }
-}
-
-pub fn refusal_code(rule: Rule) -> u64
-    ensures { λ r. ⌜ r ≡ writtenCode (Refused rule 0) ⌝ }
-{
-    written_code(Written::Refused { rule, at: 0 })
 }

@@ -2,8 +2,8 @@
 ghost use mathlib.Core.Path.{_≡_};
 ghost use Rattle.record.specs.Outer.{readRecord};
 ghost use Rattle.exports.specs.Codes.{writtenCode, Decodes, rewriteAnswer, rewriteHeld};
+use crate::codes::refusal_code;
 use crate::codes::written_code;
-use output::Written;
 use record::Outcome;
 use record::read_record;
 use record::write_record;
@@ -18,7 +18,7 @@ pub extern "C" fn forest_rewrite(input: &[u8], out: &mut [u8]) -> u64
     let site = read.site;
     let outcome = read.outcome;
     match outcome {
-        Outcome::Refused { rule, at } => { written_code(Written::Refused { rule, at }) }
+        Outcome::Refused { rule, at } => refusal_code(rule, at),
         Outcome::Accepted => written_code(write_record(site, out)),
     }
 }

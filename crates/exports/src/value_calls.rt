@@ -25,10 +25,10 @@ pub extern "C" fn forest_check(site: &[u8]) -> u64
     ensures decoded { λ r. ⌜ Decodes (writeAnswer (valueCheck (now (site .entry))) 0) r ⌝ }
 {
     if site.len() != 50 {
-        return refusal_code(Rule::BadLength);
+        return refusal_code(Rule::BadLength, 0);
     }
     match check_site(site_in(site)) {
-        Checked::Broken(rule) => refusal_code(rule),
+        Checked::Broken(rule) => refusal_code(rule, 0),
         Checked::Passed => 0,
     }
 }
@@ -51,13 +51,13 @@ pub extern "C" fn forest_loads(site: &[u8], out: &mut [u64]) -> u64
     ensures decoded { λ r. ⌜ Decodes (valueAnswer (now (site .entry)) 4 (length (now (out .entry)))) r ⌝ }
 {
     if site.len() != 50 {
-        return refusal_code(Rule::BadLength);
+        return refusal_code(Rule::BadLength, 0);
     }
     match critical_loads(site_in(site)) {
-        LoadsAnswer::Refused(rule) => refusal_code(rule),
+        LoadsAnswer::Refused(rule) => refusal_code(rule, 0),
         LoadsAnswer::Given(l) => {
             if out.len() < 4 {
-                return refusal_code(Rule::BufferShort);
+                return refusal_code(Rule::BufferShort, 0);
             }
             put_four(out, 0, [l.max_s, l.min_n, l.max_n, l.nut_n]);
             4
@@ -87,13 +87,13 @@ pub extern "C" fn forest_judge(site: &[u8], out: &mut [u64]) -> u64
     ensures demand3 { λ r. ⌜ (r ≡ 8 → MarkSays (getD (now (out .exit)) 7 0) (siteIn (now (site .entry)))) ⌝ }
 {
     if site.len() != 50 {
-        return refusal_code(Rule::BadLength);
+        return refusal_code(Rule::BadLength, 0);
     }
     match judge(site_in(site)) {
-        JudgementAnswer::Refused(rule) => refusal_code(rule),
+        JudgementAnswer::Refused(rule) => refusal_code(rule, 0),
         JudgementAnswer::Given(judged) => {
             if out.len() < 8 {
-                return refusal_code(Rule::BufferShort);
+                return refusal_code(Rule::BufferShort, 0);
             }
             let l = judged.loads;
             let v = judged.verdict;

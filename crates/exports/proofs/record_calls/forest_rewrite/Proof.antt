@@ -10,8 +10,8 @@ read-record-requires c κs = search needs
 enum-known-outcome : tie.Need-enum-known-outcome
 enum-known-outcome c = search needs
 
-written-code-requires : tie.Need-written-code-requires
-written-code-requires c κs = search needs
+refusal-code-requires : tie.Need-refusal-code-requires
+refusal-code-requires c κs = search needs
 
 enum-told : tie.Need-enum-told
 enum-told c = search needs
@@ -19,14 +19,14 @@ enum-told c = search needs
 write-record-requires : tie.Need-write-record-requires
 write-record-requires c κs = search needs
 
-written-code-requires-2 : tie.Need-written-code-requires-2
-written-code-requires-2 c κs = search needs
+written-code-requires : tie.Need-written-code-requires
+written-code-requires c κs = search needs
 
 returns : tie.Need-returns
 returns c =
     let r = c .before .before .before .before .before in
     let a = r .before .before .before .args in
-    not-read (now (a .input)) (now (a .out)) (r .read-record .result) (r .read-record .ensures .0) (c .before .before .outcome .given .1) (c .written-code .ensures)
+    not-read (now (a .input)) (now (a .out)) (r .read-record .result) (r .read-record .ensures .0) (c .before .before .outcome .given .1) (c .refusal-code .ensures)
 
 same-length : tie.Need-same-length
 same-length c = search needs
@@ -39,7 +39,7 @@ returns-2 c =
     let a = r .before .before .before .args in
     let o = told .enum-told .given .1 in
     rewritten (now (a .input)) (now (a .out)) (r .read-record .result) (r .read-record .ensures .0) o
-    (r .read-record .ensures .1 .1 o) (w .write-record .ensures .0) (w .write-record .ensures .1 .0) (c .written-code2 .ensures)
+    (r .read-record .ensures .1 .1 o) (w .write-record .ensures .0) (w .write-record .ensures .1 .0) (c .written-code .ensures)
 
 pub forest-rewrite-spec : {M : Type 1} → statement M
 forest-rewrite-spec =
@@ -47,10 +47,10 @@ forest-rewrite-spec =
     (tie.spec
     read-record-requires
     enum-known-outcome
-    written-code-requires
+    refusal-code-requires
     enum-told
     write-record-requires
-    written-code-requires-2
+    written-code-requires
     returns
     same-length
     returns-2)
