@@ -1,8 +1,7 @@
 -- What the program prints: longer files, and one site in two files.
-use Prim.Native.Nat.{ℕ}
+use Prim.Native.Nat.{ℕ, _≤_}
 use mathlib.Core.Path.{_≡_, ap}
 use mathlib.Core.List.{List}
-use native.Mathlib.Omega.{arith}
 use lib.ListN.{getD, take}
 use Rattle.judgement.proofs.AtSites.{told-stays}
 use Rattle.field.specs.Field.{blankSite}
@@ -19,9 +18,9 @@ unfolding reportOf printed
 report-says f ss e = rw e (listing-says f ss e)
 
 -- bytes past those that are looked at change nothing of what is printed
-pub report-take : (f : List ℕ) → reportOf (take mostFile f) ≡ reportOf f
+pub report-take : (f : List ℕ) (m : ℕ) → mostFile ≤ m → reportOf (take m f) ≡ reportOf f
 unfolding reportOf
-report-take f = ap printed (sites-more f mostFile (omega arith))
+report-take f m h = ap printed (sites-more f m h)
 
 -- less deposition is never worse, in all texts of which demand 3 holds
 pub texts-stay : (f x g y : List ℕ) → Demand3 f x → Demand3 g y → PrintedNeverWorse f x g y

@@ -69,7 +69,7 @@ same-part n m b h = go (leb n (length b)) refl
         let l : length b < n = leb-false n (length b) t in
         take-all m b (omega arith) ∙ sym (take-all n b (omega arith))
 
-module _ (b d e : List ℕ) (r : ReadState) (n m k : ℕ) (is : r ≡ Ended n) (part : m ≡ min n (length b)) (size : length b ≡ mostFile)
+module _ (b d e : List ℕ) (r : ReadState) (n m k : ℕ) (is : r ≡ Ended n) (part : m ≡ min n (length b)) (size : mostFile ≤ length b)
     (inside : (k ≤ length e) × (k ≡ length (take k e)))
     (answer : k ≡ shownLength (reportOf (take m b)) d)
     (buffer : e ≡ held (reportOf (take m b)) d)
@@ -83,7 +83,7 @@ module _ (b d e : List ℕ) (r : ReadState) (n m k : ℕ) (is : r ≡ Ended n) (
   for-the-file f x =
       let same : x .count ≡ n = cc in
       let first : take n b ≡ take (length b) f = rw same at (x .bytes) in
-      all ∙ ap reportOf (same-part n m b part ∙ first) ∙ ap (λ l. reportOf (take l f)) size ∙ report-take f
+      all ∙ ap reportOf (same-part n m b part ∙ first) ∙ report-take f (length b) size
 
   pub after-the-end : Prints b d e r k
   after-the-end =

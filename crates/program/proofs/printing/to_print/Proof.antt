@@ -1,7 +1,9 @@
-use mathlib.Core.Path.{_≡_, sym}
-use native.Mathlib.Omega.{arith}
+use mathlib.Core.Path.{sym}
 use denote.Ref.{now}
+use Prim.Native.Nat.{_≤_}
 use lib.ListN.{length}
+use Rattle.record.specs.File.{mostFile}
+use Rattle.text.specs.TextLengths.{mostText}
 use lib.Seq.{length-take-le}
 use Rattle.program.proofs.PrintingLaws.{after-failure, before-the-end, after-the-end}
 use borrow.Author.Needs.{needs}
@@ -31,11 +33,11 @@ returns c =
     let least = c .before .before .before in
     let told = least .before .before .before in
     let s = told .before .before in
-    let size : length (now (s .args .file)) ≡ 129001 = search needs in
-    let room : length (now (s .args .out)) ≡ 81551 = search needs in
+    let size : mostFile ≤ length (now (s .args .file)) = search needs in
+    let room : mostText ≤ length (now (s .args .out)) = search needs in
     let e = c .shown .ensures in
     after-the-end (now (s .args .file)) (now (s .args .out)) (c .shown .last .1 .0) (s .args .reading) (told .reading .given .0 .0) (least .least .result) (c .shown .result)
-    (told .reading .given .1) (least .least .ensures .0) size (e .0) (e .1 .0) (e .1 .1 .0) (e .1 .1 .1 (omega arith))
+    (told .reading .given .1) (least .least .ensures .0) size (e .0) (e .1 .0) (e .1 .1 .0) (e .1 .1 .1 room)
 
 returns-2 : tie.Need-returns-2
 returns-2 c = let s = c .before .before in before-the-end (now (s .args .file)) (now (s .args .out)) (s .args .reading) (c .enum-told .given .0 .0) (c .enum-told .given .1)
