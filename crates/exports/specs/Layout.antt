@@ -12,7 +12,7 @@ use Rattle.site.specs.declared.Rule.the-variants.{BadLength}
 use Rattle.site.specs.declared.Checked.{Checked}
 use Rattle.site.specs.declared.Checked.the-variants.{Passed, Broken}
 use Rattle.loads.specs.SiteTerms.{termsOf}
-use Rattle.loads.specs.CriticalLoads.{maxS, minN, maxN, nutN}
+use Rattle.loads.specs.CriticalLoads.{loadsOf, loadNumbers}
 use Rattle.judgement.specs.declared.Verdict.{Verdict}
 use Rattle.judgement.specs.declared.Verdict.the-variants.{Within, Over}
 use Rattle.judgement.specs.Verdicts.{verdict, verdictNumbers}
@@ -45,7 +45,7 @@ unfoldable pub valueCheck : List ℕ → Checked
 valueCheck b = andThen (pick (eqb (length b) 50) Passed (Broken BadLength)) (siteRule (siteIn b))
 
 unfoldable pub loadsNumbers : Site → List ℕ
-loadsNumbers s = maxS (termsOf s) ∷ minN (termsOf s) ∷ maxN (termsOf s) ∷ nutN (termsOf s) ∷ []
+loadsNumbers s = loadNumbers (loadsOf (termsOf s))
 
 -- 0 within, 1 over
 unfoldable pub markNumber : Verdict → ℕ
