@@ -98,7 +98,7 @@ module _ (S N C m e : ℕ) where
         (λ n v t k. absurd (omega arith)) (λ n v t k. refl)
 
   -- region 0's condition is that balance
-  pub kept-closes : Kept S N C m e → 1000 * S + e * (N - m) ≤ 1000 * C
+  kept-closes : Kept S N C m e → 1000 * S + e * (N - m) ≤ 1000 * C
   kept-closes k = ⊎-elim (λ n. omega (arith, k .sulphur, rest-zero n)) (λ v. v) (k .nitrogen)
 
   closes-kept : 1000 * S + e * (N - m) ≤ 1000 * C → Kept S N C m e
