@@ -14,6 +14,7 @@ use Rattle.site.specs.declared.Checked.the-variants.{Passed, Broken}
 use Rattle.site.specs.declared.Site.{Site}
 use Rattle.site.proofs.Passing.{both-passed}
 use Rattle.loads.specs.SiteTerms.{termsOf}
+use Rattle.loads.specs.CriticalLoads.{loadNumbers}
 use Rattle.judgement.specs.declared.Verdict.{Verdict}
 use Rattle.judgement.specs.declared.Verdict.the-variants.{Within, Over}
 use Rattle.judgement.specs.Verdicts.{verdict, verdictNumbers}
@@ -76,7 +77,7 @@ length-marked Within = refl
 length-marked (Over r x y) = refl
 
 pub length-judged : (s : Site) → length (judgementNumbers s) ≡ 8
-unfolding judgementNumbers loadsNumbers
+unfolding judgementNumbers loadsNumbers loadNumbers
 length-judged s = omega (arith, length-marked (verdict (termsOf s) (s .sulphur) (s .nitrogen)))
 
 -- ---- demand 3 of the mark
@@ -104,7 +105,7 @@ module _ (b old new : List ℕ) where
       new ≡ heldAfter (outputRule (valueCheck b) 8 (length old)) (judgementNumbers (siteIn b)) old
       → valueCheck b ≡ Passed → 8 ≤ length old
       → getD new 7 0 ≡ markNumber (verdict (termsOf (siteIn b)) (siteIn b .sulphur) (siteIn b .nitrogen))
-  unfolding heldAfter judgementNumbers loadsNumbers
+  unfolding heldAfter judgementNumbers loadsNumbers loadNumbers
   mark-is e p l =
       let q : new ≡ judgementNumbers (siteIn b) ++ drop (length (judgementNumbers (siteIn b))) old = rw (output-whole 8 (length old) (valueCheck b) p l) at e in
       rw q (mark-at (verdict (termsOf (siteIn b)) (siteIn b .sulphur) (siteIn b .nitrogen)) (drop (length (judgementNumbers (siteIn b))) old))

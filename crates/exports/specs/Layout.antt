@@ -15,7 +15,7 @@ use Rattle.site.specs.declared.Checked.the-variants.{Passed, Broken}
 use Rattle.output.specs.declared.Written.{Written}
 use Rattle.output.specs.Output.{outputRule, writeAnswer}
 use Rattle.loads.specs.SiteTerms.{termsOf}
-use Rattle.loads.specs.CriticalLoads.{maxS, minN, maxN, nutN}
+use Rattle.loads.specs.CriticalLoads.{loadsOf, loadNumbers}
 use Rattle.judgement.specs.declared.Verdict.{Verdict}
 use Rattle.judgement.specs.declared.Verdict.the-variants.{Within, Over}
 use Rattle.judgement.specs.Verdicts.{verdict, verdictNumbers}
@@ -52,7 +52,7 @@ abbrev pub valueAnswer : List ℕ → (needed room : ℕ) → Written
 valueAnswer b needed room = writeAnswer (outputRule (valueCheck b) needed room) needed
 
 unfoldable pub loadsNumbers : Site → List ℕ
-loadsNumbers s = maxS (termsOf s) ∷ minN (termsOf s) ∷ maxN (termsOf s) ∷ nutN (termsOf s) ∷ []
+loadsNumbers s = loadNumbers (loadsOf (termsOf s))
 
 -- 0 within, 1 over
 unfoldable pub markNumber : Verdict → ℕ

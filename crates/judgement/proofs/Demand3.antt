@@ -52,7 +52,7 @@ numbers-of r a n zero = go (eqb (regionNumber r) 0 && eqb n 0) refl
         rw (zero here, here, eqb-true n 0 (and-r (eqb (regionNumber r) 0) (eqb n 0) e))
     go false e = refl
 
-pub within-needs : (r : Region) (a n : ℕ) → verdictOf r a n ≡ Within → (r ≡ AcidKept) × (n ≡ 0)
+within-needs : (r : Region) (a n : ℕ) → verdictOf r a n ≡ Within → (r ≡ AcidKept) × (n ≡ 0)
 unfolding verdictOf
 within-needs r a n h = go (eqb (regionNumber r) 0 && eqb n 0) refl h
   where
@@ -60,7 +60,7 @@ within-needs r a n h = go (eqb (regionNumber r) 0 && eqb n 0) refl h
     go true e p = (number-zero r (eqb-true _ _ (and-l (eqb (regionNumber r) 0) (eqb n 0) e)), eqb-true n 0 (and-r (eqb (regionNumber r) 0) (eqb n 0) e))
     go false e p = absurd (over≢within p)
 
-pub within-where : {r : Region} (a : ℕ) {n : ℕ} → r ≡ AcidKept → n ≡ 0 → verdictOf r a n ≡ Within
+within-where : {r : Region} (a : ℕ) {n : ℕ} → r ≡ AcidKept → n ≡ 0 → verdictOf r a n ≡ Within
 unfolding verdictOf
 within-where a {n} e z = rw (e, z)
 

@@ -15,7 +15,7 @@ use Rattle.site.specs.ByCheck.{answerIf}
 use Rattle.site.proofs.ByCheckLaws.{given-by, refused-by, values-by}
 use Rattle.loads.specs.SiteTerms.{termsOf}
 use Rattle.loads.specs.Terms.{Terms}
-use Rattle.loads.specs.CriticalLoads.{loadsOf}
+use Rattle.loads.specs.CriticalLoads.{loadsOf, loadNumbers}
 use Rattle.judgement.specs.declared.Judged.{Judged}
 use Rattle.judgement.specs.declared.JudgementAnswer.{JudgementAnswer}
 use Rattle.judgement.specs.declared.JudgementAnswer.the-variants.{Given, Refused}
@@ -71,7 +71,7 @@ word-is t S N = go (eqb (regionNumber (region t S N)) 0 && eqb (nutrientExceedan
     go false = refl
 
 judged-values : (s : Site) → judgedValues (judgedOf s) ≡ pairValues (termsOf s) (s .sulphur) (s .nitrogen)
-unfolding judgedValues judgedOf loadsOf pairValues
+unfolding judgedValues judgedOf loadsOf loadNumbers pairValues
 judged-values s = rw (numbers-are (termsOf s) (s .sulphur) (s .nitrogen), word-is (termsOf s) (s .sulphur) (s .nitrogen))
 
 module _ (s : Site) (r : JudgementAnswer) (is : r ≡ judgementAnswer s) where

@@ -1,35 +1,25 @@
--- The acid exceedance is the least whole number that is enough, and what follows: it never falls when S or N rises, and how far it rises.
-use Prim.Native.Nat.{ℕ, suc, _+_, _*_, _-_, _/_, _≤_, _<_}
+-- The acid exceedance is the least whole number that is enough, and what follows: it never falls when S or N rises.
+use Prim.Native.Nat.{ℕ, _+_, _*_, _-_, _≤_, _<_}
 use mathlib.Core.Path.{_≡_, ap}
-use mathlib.Core.Logic.{_⊎_, inl, inr, ⊎-elim, _↔_}
+use mathlib.Core.Logic.{_⊎_, inl, inr, ⊎-elim}
 use native.Mathlib.Omega.{arith}
-use native.Mathlib.Nat.{mul-le-mul-left, mul-le-mul-right, le-of-mul-le-mul-left, div-lt-iff-lt-mul, le-refl}
+use native.Mathlib.Nat.{mul-le-mul-left, mul-le-mul-right, le-of-mul-le-mul-left}
 use Rattle.loads.specs.Rounding.{up}
 use Rattle.site.proofs.Tests.{le-or-lt}
+use Rattle.loads.proofs.Numbers.{up-le, up-enough}
 use Rattle.judgement.specs.Regions.{D, excess, acidIn, acidOf}
 use Rattle.judgement.proofs.RegionLaws.{by-region}
 use Rattle.judgement.proofs.NotCutOff.{slope-one, slope-three}
 
 -- (b − a) × (d − c) is not below 0: what `omega` lacks for products of inequalities
-pub cross : {a b c d : ℕ} → a ≤ b → c ≤ d → a * d + b * c ≤ a * c + b * d
+cross : {a b c d : ℕ} → a ≤ b → c ≤ d → a * d + b * c ≤ a * c + b * d
 cross {a} {b} {c} {d} h i =
     let k = b - a in
     let q : a + k ≡ b = omega arith in
     omega (arith, mul-le-mul-left k i, ap (λ z. z * c) q, ap (λ z. z * d) q)
 
--- a quotient, up, is the least whole number that is enough
-pub up-le : (x d k : ℕ) → 0 < d → x ≤ k * d → up x d ≤ k
-unfolding up
-up-le x d k p h = let z : (x + (d - 1)) / d < suc k = div-lt-iff-lt-mul p .1 (omega arith) in omega arith
-
-pub up-enough : (x d : ℕ) → 0 < d → x ≤ up x d * d
-unfolding up
-up-enough x d p =
-    let z : x + (d - 1) < suc (up x d) * d = div-lt-iff-lt-mul p .0 (omega arith) in
-    omega arith
-
 -- k is enough, with n for N − CLminN: at least S + (e n − 1000 C) / e, and at least the lesser of (1000 + e) v / D and n + S − C
-abbrev pub Enough : (S n C e k : ℕ) → Type 0
+abbrev Enough : (S n C e k : ℕ) → Type 0
 Enough S n C e k =
     (e * S + e * n ≤ e * k + 1000 * C)
     × (((1000 + e) * (1000 * S + e * n) ≤ (1000000 + e * e) * k + (1000 + e) * (1000 * C)) ⊎ (n + S ≤ k + C))
@@ -105,13 +95,13 @@ module _ (S n C e : ℕ) (h : e ≤ 1000) where
         (en .1)
 
 -- v as an equation, where it is above 0
-pub excess-is : (S C e n : ℕ) → 1000 * C < 1000 * S + e * n → excess S C e n + 1000 * C ≡ 1000 * S + e * n
+excess-is : (S C e n : ℕ) → 1000 * C < 1000 * S + e * n → excess S C e n + 1000 * C ≡ 1000 * S + e * n
 unfolding excess
 excess-is S C e n g = omega arith
 
 module _ (S N C m e : ℕ) (p : 0 < e) (h : e ≤ 1000) where
   -- the acid exceedance is enough
-  pub acid-enough : Enough S (N - m) C e (acidOf S N C m e)
+  acid-enough : Enough S (N - m) C e (acidOf S N C m e)
   unfolding acidOf acidIn D
   acid-enough =
       let n = N - m in
@@ -127,7 +117,7 @@ module _ (S N C m e : ℕ) (p : 0 < e) (h : e ≤ 1000) where
       two-enough S n C e h v (excess-is S C e n g) (up ((1000 + e) * v) (D e)) k (up-enough ((1000 + e) * v) (D e) (omega arith)))
 
   -- and no smaller whole number is
-  pub acid-least : (k : ℕ) → Enough S (N - m) C e k → acidOf S N C m e ≤ k
+  acid-least : (k : ℕ) → Enough S (N - m) C e k → acidOf S N C m e ≤ k
   unfolding acidOf acidIn D
   acid-least k en =
       let n = N - m in
@@ -141,15 +131,6 @@ module _ (S N C m e : ℕ) (p : 0 < e) (h : e ≤ 1000) where
       omega (arith, z .0, up-le (e * n - 1000 * C) e (k - S) p (z .1)))
       (λ l g t b. up-le ((1000 + e) * v) (D e) k (omega arith) (two-least S n C e h v (excess-is S C e n g) k t en))
 
-  pub acid-iff : (k : ℕ) → (acidOf S N C m e ≤ k) ↔ Enough S (N - m) C e k
-  acid-iff k = (λ l. grows S (N - m) C e (acidOf S N C m e) k l acid-enough, acid-least k)
-    where
-      grows : (S n C e j k : ℕ) → j ≤ k → Enough S n C e j → Enough S n C e k
-      grows S n C e j k l en = (
-        omega (arith, en .0, mul-le-mul-left e l),
-        ⊎-elim (λ a. inl (omega (arith, a, mul-le-mul-left (1000000 + e * e) l))) (λ b. inr (omega arith)) (en .1),
-      )
-
 -- what is enough for more is enough for less
 less-enough : (S n S' n' C e k : ℕ) → S ≤ S' → n ≤ n' → Enough S' n' C e k → Enough S n C e k
 less-enough S n S' n' C e k a b en =
@@ -160,40 +141,9 @@ less-enough S n S' n' C e k a b en =
       ⊎-elim (λ x. inl (omega (arith, x, mul-le-mul-left (1000 + e) both))) (λ y. inr (omega arith)) (en .1),
     )
 
-more-N-enough : (S n C e k d : ℕ) → e ≤ 1000 → Enough S n C e k → Enough S (n + d) C e (k + d)
-more-N-enough S n C e k d h en = (
-  omega (arith, en .0),
-  ⊎-elim (λ x. inl (omega (arith, x, mul-le-mul-right d h))) (λ y. inr (omega arith)) (en .1),
-)
-
--- 4 × 1000 × (1000 + e) ≤ 5 × D, since 5 D is 4000 (1000 + e) + 5 (e − 400)² + 200000
-slope : (e : ℕ) → 4000 * (1000 + e) ≤ 5 * (1000000 + e * e)
-slope e = ⊎-elim (λ l. omega (arith, cross l l)) (λ g. let l : 400 ≤ e = omega arith in omega (arith, cross l l)) (le-or-lt e 400)
-
-more-S-enough : (S n C e k d j : ℕ) → 5 * d ≤ 4 * j → Enough S n C e k → Enough (S + d) n C e (k + j)
-more-S-enough S n C e k d j l en = (
-  omega (arith, en .0, mul-le-mul-left e l),
-  ⊎-elim (λ x. inl (omega (arith, x, mul-le-mul-left (1000000 + e * e) l, mul-le-mul-right d (slope e)))) (λ y. inr (omega arith)) (en .1),
-)
-
 module _ (C m e : ℕ) (p : 0 < e) (h : e ≤ 1000) where
   -- the acid exceedance never falls when S or N rises
   pub acid-mono : {S N S' N' : ℕ} → S ≤ S' → N ≤ N' → acidOf S N C m e ≤ acidOf S' N' C m e
   acid-mono {S} {N} {S'} {N'} a b =
       acid-least S N C m e p h (acidOf S' N' C m e)
       (less-enough S (N - m) S' (N' - m) C e (acidOf S' N' C m e) a (omega arith) (acid-enough S' N' C m e p h))
-
-  -- N raised by d raises it by d at most
-  pub acid-N : (S N d : ℕ) → acidOf S (N + d) C m e ≤ acidOf S N C m e + d
-  acid-N S N d =
-      let k = acidOf S N C m e in
-      acid-least S (N + d) C m e p h (k + d)
-      (less-enough S (N + d - m) S (N - m + d) C e (k + d) (le-refl S) (omega arith) (more-N-enough S (N - m) C e k d h (acid-enough S N C m e p h)))
-
-  -- S raised by d raises four times it by less than 5 d + 4
-  pub acid-S : (S N d : ℕ) → 4 * acidOf (S + d) N C m e < 4 * acidOf S N C m e + 5 * d + 4
-  acid-S S N d =
-      let k = acidOf S N C m e in
-      let j = (5 * d + 3) / 4 in
-      let z = acid-least (S + d) N C m e p h (k + j) (more-S-enough S (N - m) C e k d j (omega arith) (acid-enough S N C m e p h)) in
-      omega arith

@@ -2,21 +2,21 @@
 use Prim.Native.Nat.{ℕ, _+_, _*_, _-_, _≤_, _<_}
 use mathlib.Core.Bool.{false, _&&_, _||_}
 use mathlib.Core.Path.{_≡_, refl, ap}
-use mathlib.Core.Logic.{⊎-elim}
+use mathlib.Core.Logic.{inr, ⊎-elim}
 use native.Mathlib.Omega.{arith}
 use native.Mathlib.Nat.{mul-zero, mul-le-mul}
 use borrow.Author.Tests.{le-leb, lt-leb, lt-ltb, le-ltb}
 use lib.Dec.{leb}
-use Rattle.site.proofs.Tests.{le-or-lt}
-use Rattle.loads.proofs.Tables.{lt-or-le}
+use Rattle.site.specs.Ranges.{depositionRange}
+use Rattle.site.proofs.Tests.{le-or-lt, lt-or-le}
 use Rattle.judgement.specs.declared.Region.{Region}
 use Rattle.judgement.specs.declared.Region.the-variants.{AcidKept, NoSulphur, Slope, Corner, SulphurOnly}
-use Rattle.judgement.specs.JudgementConditions.{Pair}
-use Rattle.judgement.specs.Regions.{D, excess, regionNumber, regionOf}
+use Rattle.judgement.specs.JudgementConditions.{PairBounds}
+use Rattle.judgement.specs.Regions.{D, excess, regionNumber, regionOf, Kept, Lies, region-0, region-1, region-2, region-3, region-4}
 
 module _ (S N C m e : ℕ) where
-  pub none-left : N ≤ m → e * (N - m) ≡ 0
-  none-left h = let z : N - m ≡ 0 = omega arith in rw (z, mul-zero)
+  pub rest-zero : N ≤ m → e * (N - m) ≡ 0
+  rest-zero h = let z : N - m ≡ 0 = omega arith in rw (z, mul-zero)
 
   -- what holds in each region, once: a law on regions goes through here and opens no test
   pub by-region {ℓ} :
@@ -32,7 +32,7 @@ module _ (S N C m e : ℕ) where
     where
       low : N ≤ m → P (regionOf S N C m e)
       low n =
-          ⊎-elim (λ l. simp (le-leb S C l, le-leb N m n) (p0 (omega (arith, none-left n))))
+          ⊎-elim (λ l. simp (le-leb S C l, le-leb N m n) (p0 (omega (arith, rest-zero n))))
           (λ g. simp (lt-leb S C g, le-leb N m n) (p4 n g))
           (le-or-lt S C)
 
@@ -70,7 +70,7 @@ module _ (S N C m e : ℕ) where
   pub closes-zero : 1000 * S + e * (N - m) ≤ 1000 * C → regionOf S N C m e ≡ AcidKept
   closes-zero =
       by-region (λ r. 1000 * S + e * (N - m) ≤ 1000 * C → r ≡ AcidKept) (λ v h. refl)
-      (λ n g h. absurd (omega (arith, none-left n)))
+      (λ n g h. absurd (omega (arith, rest-zero n)))
       (λ n v t h. absurd (omega arith))
       (λ n v t k h. absurd (omega arith))
       (λ n v t k h. absurd (omega arith))
@@ -78,7 +78,7 @@ module _ (S N C m e : ℕ) where
   -- each region by the tests that lead to it
   pub is-four : N ≤ m → C < S → regionOf S N C m e ≡ SulphurOnly
   is-four a b =
-      by-region (λ r. r ≡ SulphurOnly) (λ v. absurd (omega (arith, none-left a))) (λ n g. refl)
+      by-region (λ r. r ≡ SulphurOnly) (λ v. absurd (omega (arith, rest-zero a))) (λ n g. refl)
       (λ n v t. absurd (omega arith)) (λ n v t k. absurd (omega arith)) (λ n v t k. absurd (omega arith))
 
   module _ (a : m < N) (b : 1000 * C < 1000 * S + e * (N - m)) where
@@ -97,27 +97,32 @@ module _ (S N C m e : ℕ) where
         by-region (λ r. r ≡ Slope) (λ v. absurd (omega arith)) (λ n g. absurd (omega arith)) (λ n v t. absurd (omega arith))
         (λ n v t k. absurd (omega arith)) (λ n v t k. refl)
 
--- What each region asks: its own conditions, and that no earlier region applies.
-abbrev pub Lies : Region → (S N C m e : ℕ) → Type 0
-Lies AcidKept S N C m e = 1000 * S + e * (N - m) ≤ 1000 * C
-Lies SulphurOnly S N C m e = (N ≤ m) × (C < S)
-Lies Corner S N C m e = (m < N) × (1000 * C < 1000 * S + e * (N - m)) × ((N - m) * D e < e * excess S C e (N - m))
-Lies NoSulphur S N C m e =
-    (m < N) × (1000 * C < 1000 * S + e * (N - m)) × (e * excess S C e (N - m) ≤ (N - m) * D e) × (S * D e < 1000 * excess S C e (N - m))
-Lies Slope S N C m e =
-    (m < N) × (1000 * C < 1000 * S + e * (N - m)) × (e * excess S C e (N - m) ≤ (N - m) * D e) × (1000 * excess S C e (N - m) ≤ S * D e)
+  -- region 0's condition is that balance
+  kept-closes : Kept S N C m e → 1000 * S + e * (N - m) ≤ 1000 * C
+  kept-closes k = ⊎-elim (λ n. omega (arith, k .sulphur, rest-zero n)) (λ v. v) (k .nitrogen)
 
--- every pair lies in exactly one region
-pub lies-in : (S N C m e : ℕ) → Lies (regionOf S N C m e) S N C m e
-lies-in S N C m e =
-    by-region S N C m e (λ r. Lies r S N C m e) (λ v. v) (λ n g. (n, g)) (λ n v t. (n, v, t)) (λ n v t k. (n, v, t, k)) (λ n v t k. (n, v, t, k))
+  closes-kept : 1000 * S + e * (N - m) ≤ 1000 * C → Kept S N C m e
+  closes-kept v = record { sulphur = omega arith; nitrogen = inr v }
 
-pub lies-only : (r : Region) (S N C m e : ℕ) → Lies r S N C m e → regionOf S N C m e ≡ r
-lies-only AcidKept S N C m e l = closes-zero S N C m e l
-lies-only SulphurOnly S N C m e l = is-four S N C m e (l .0) (l .1)
-lies-only Corner S N C m e l = is-three S N C m e (l .0) (l .1) (l .2)
-lies-only NoSulphur S N C m e l = is-one S N C m e (l .0) (l .1) (l .2) (l .3)
-lies-only Slope S N C m e l = is-two S N C m e (l .0) (l .1) (l .2) (l .3)
+  -- and where it does not hold
+  pub not-kept : (Kept S N C m e → ⊥) → 1000 * C < 1000 * S + e * (N - m)
+  not-kept out = ⊎-elim (λ v. absurd (out (closes-kept v))) (λ v. v) (le-or-lt (1000 * S + e * (N - m)) (1000 * C))
+
+  -- every pair lies in exactly one region
+  pub lies-in : Lies S N C m e (regionOf S N C m e)
+  lies-in =
+      by-region (Lies S N C m e) (λ v. region-0 (closes-kept v))
+      (λ n g. region-4 (λ k. omega (arith, k .sulphur)) n)
+      (λ n v t. region-3 (λ k. omega (arith, kept-closes k)) n t)
+      (λ n v t o. region-1 (λ k. omega (arith, kept-closes k)) n t o)
+      (λ n v t o. region-2 (λ k. omega (arith, kept-closes k)) n t o)
+
+  pub lies-only : {r : Region} → Lies S N C m e r → regionOf S N C m e ≡ r
+  lies-only (region-0 own) = closes-zero (kept-closes own)
+  lies-only (region-4 out own) = is-four own (omega (arith, not-kept out, rest-zero own))
+  lies-only (region-3 out n own) = is-three n (not-kept out) own
+  lies-only (region-1 out n t own) = is-one n (not-kept out) t own
+  lies-only (region-2 out n t k) = is-two n (not-kept out) t k
 
 -- every product of the judgement, with room in 64 bits
 pub record Sizes (S N C m e : ℕ) : Type 0 where
@@ -127,17 +132,17 @@ pub record Sizes (S N C m e : ℕ) : Type 0 where
   pub right-three : e * (1000 * S + e * (N - m) - 1000 * C) ≤ 131070000000
   pub left-one : S * (1000000 + e * e) ≤ 131070000000
 
-pub sizes : {S N C e : ℕ} (m : ℕ) → Pair S N C e → Sizes S N C m e
+pub sizes : {S N C e : ℕ} (m : ℕ) → PairBounds S N C e → Sizes S N C m e
 sizes {S} {N} {C} {e} m p =
-    let n : N - m ≤ 65535 = omega arith in
-    let en : e * (N - m) ≤ 65535000 = mul-le-mul (p .undenitrified) n in
-    let ee : e * e ≤ 1000000 = mul-le-mul (p .undenitrified) (p .undenitrified) in
+    let n : N - m ≤ depositionRange .most = omega arith in
+    let en : e * (N - m) ≤ 65535000 = mul-le-mul (p .e-most) n in
+    let ee : e * e ≤ 1000000 = mul-le-mul (p .e-most) (p .e-most) in
     let d : 1000000 + e * e ≤ 2000000 = omega arith in
     let v : 1000 * S + e * (N - m) - 1000 * C ≤ 131070000 = omega arith in
     record {
       nitrogen = en;
       square = ee;
       left-three = mul-le-mul n d;
-      right-three = mul-le-mul (p .undenitrified) v;
+      right-three = mul-le-mul (p .e-most) v;
       left-one = mul-le-mul (p .sulphur) d;
     }

@@ -1,7 +1,8 @@
 -- The acid regions and the acid exceedance, on plain numbers: C is CLmaxS, m is CLminN, e the part that is not denitrified.
 -- Where n = N − m or v would be below 0, the subtraction of ℕ gives 0; `proofs/NotCutOff.antt` shows that no such value is used.
-use Prim.Native.Nat.{ℕ, _+_, _*_, _-_}
+use Prim.Native.Nat.{ℕ, _+_, _*_, _-_, _≤_, _<_}
 use mathlib.Core.Bool.{_&&_, _||_}
+use mathlib.Core.Logic.{_⊎_}
 use lib.Dec.{leb, ltb}
 use Rattle.site.specs.Choice.{pick}
 use Rattle.loads.specs.Rounding.{up}
@@ -30,6 +31,21 @@ regionOf S N C m e =
     (pick (leb N m) SulphurOnly
     (pick (ltb ((N - m) * D e) (e * excess S C e (N - m))) Corner
     (pick (ltb (S * D e) (1000 * excess S C e (N - m))) NoSulphur Slope)))
+
+-- The same as conditions, in the order of document 01: where a pair lies in a region, that one's own condition holds and no earlier region applies.
+-- Region 0: S ≤ CLmaxS, and n ≤ 0 or v ≤ 0.
+pub record Kept (S N C m e : ℕ) : Type 0 where
+  pub sulphur : S ≤ C
+  pub nitrogen : (N ≤ m) ⊎ (1000 * S + e * (N - m) ≤ 1000 * C)
+
+pub data Lies (S N C m e : ℕ) : Region → Type 0 where
+  region-0 : (own : Kept S N C m e) → Lies S N C m e AcidKept
+  region-4 : (not-0 : Kept S N C m e → ⊥) (own : N ≤ m) → Lies S N C m e SulphurOnly
+  region-3 : (not-0 : Kept S N C m e → ⊥) (not-4 : m < N) (own : (N - m) * D e < e * excess S C e (N - m)) → Lies S N C m e Corner
+  region-1 : (not-0 : Kept S N C m e → ⊥) (not-4 : m < N) (not-3 : e * excess S C e (N - m) ≤ (N - m) * D e)
+      (own : S * D e < 1000 * excess S C e (N - m)) → Lies S N C m e NoSulphur
+  region-2 : (not-0 : Kept S N C m e → ⊥) (not-4 : m < N) (not-3 : e * excess S C e (N - m) ≤ (N - m) * D e)
+      (not-1 : 1000 * excess S C e (N - m) ≤ S * D e) → Lies S N C m e Slope
 
 -- the acid exceedance in each region
 unfoldable pub acidIn : Region → (S N C m e : ℕ) → ℕ

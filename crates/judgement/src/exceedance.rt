@@ -1,6 +1,7 @@
 // The exceedances of a pair, on plain numbers.
 ghost use mathlib.Core.Path.{_≡_};
 ghost use Prim.Native.Nat.{_+_, _*_, _-_, _≤_, _<_};
+ghost use Rattle.site.specs.Ranges.{depositionRange};
 ghost use Rattle.loads.specs.Rounding.{up};
 ghost use Rattle.judgement.specs.JudgementConditions.{Own};
 ghost use Rattle.judgement.specs.Regions.{D, excess, acidIn};
@@ -16,7 +17,7 @@ fn up_by(x: u64, d: u64) -> u64
 
 // Region 1: left is N − CLminN.
 fn acid_no_sulphur(s: u64, left: u64, c: u64, e: u64) -> u64
-    requires { ⌜ (s ≤ 65535) × (0 < e) × (e ≤ 1000) × (left ≤ 65535) × (1000 * c ≤ e * left) ⌝ }
+    requires { ⌜ (s ≤ depositionRange .most) × (0 < e) × (e ≤ 1000) × (left ≤ depositionRange .most) × (1000 * c ≤ e * left) ⌝ }
     ensures { λ r. ⌜ r ≡ s + up (e * left - 1000 * c) e ⌝ }
 {
     s + up_by(e * left - 1000 * c, e)
@@ -24,7 +25,7 @@ fn acid_no_sulphur(s: u64, left: u64, c: u64, e: u64) -> u64
 
 // Region 2.
 fn acid_slope(s: u64, left: u64, c: u64, e: u64) -> u64
-    requires { ⌜ (s ≤ 65535) × (0 < e) × (e ≤ 1000) × (left ≤ 65535) × (1000 * c ≤ 1000 * s + e * left) ⌝ }
+    requires { ⌜ (s ≤ depositionRange .most) × (0 < e) × (e ≤ 1000) × (left ≤ depositionRange .most) × (1000 * c ≤ 1000 * s + e * left) ⌝ }
     ensures { λ r. ⌜ r ≡ up ((1000 + e) * excess s c e left) (D e) ⌝ }
 {
     up_by(

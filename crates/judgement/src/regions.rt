@@ -1,6 +1,6 @@
 // The acid region of a pair, on plain numbers: c is CLmaxS, m is CLminN, e the part that is not denitrified, per mille.
 ghost use mathlib.Core.Path.{_≡_};
-ghost use Rattle.judgement.specs.JudgementConditions.{Pair};
+ghost use Rattle.judgement.specs.JudgementConditions.{PairBounds};
 ghost use Rattle.judgement.specs.Regions.{regionNumber, regionOf};
 use crate::Region;
 
@@ -17,7 +17,7 @@ pub fn region_number(region: Region) -> u64
 }
 
 pub fn region_of(s: u64, n: u64, c: u64, m: u64, e: u64) -> Region
-    requires { ⌜ Pair s n c e ⌝ }
+    requires { ⌜ PairBounds s n c e ⌝ }
     ensures { λ r. ⌜ r ≡ regionOf s n c m e ⌝ }
 {
     if n <= m {

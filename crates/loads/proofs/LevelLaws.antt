@@ -35,10 +35,10 @@ module _ (q k : ℕ) where
 
   module _ (limit : ℕ) where
     -- the test of the definition
-    abbrev pub may : ℕ → Bool
+    abbrev may : ℕ → Bool
     may h = leb (alOf q k h) limit
 
-    pub may-zero : may 0 ≡ true
+    may-zero : may 0 ≡ true
     may-zero = le-leb (alOf q k 0) limit (omega (arith, alOf-zero))
 
     module _ (ceiling : ℕ) where

@@ -13,7 +13,7 @@ use Rattle.loads.specs.declared.Loads.{Loads}
 use Rattle.loads.specs.declared.LoadsAnswer.{LoadsAnswer}
 use Rattle.loads.specs.declared.LoadsAnswer.the-variants.{Given, Refused}
 use Rattle.loads.specs.SiteTerms.{termsOf}
-use Rattle.loads.specs.CriticalLoads.{maxS, minN, maxN, nutN, loadsOf, loadsAnswer, loadsValues}
+use Rattle.loads.specs.CriticalLoads.{maxS, minN, maxN, nutN, loadsOf, loadNumbers, loadsAnswer, loadsValues}
 
 apart : (l : Loads) (r : Rule) → Given l ≡ Refused r → ⊥
 apart l r e = let z : _≡_ {A = ℕ} 0 1 = cc in omega arith
@@ -31,6 +31,6 @@ module _ (s : Site) where
   pub loads-promise :
       (r : LoadsAnswer) → r ≡ loadsAnswer s
       → (r ≡ loadsAnswer s) × (loadsValues r ≡ valuesIf (siteRule s) (maxS (termsOf s) ∷ minN (termsOf s) ∷ maxN (termsOf s) ∷ nutN (termsOf s) ∷ []))
-  unfolding loadsAnswer loadsValues loadsOf
+  unfolding loadsAnswer loadsValues loadNumbers loadsOf
   loads-promise r is =
-      (is, ap loadsValues is ∙ values-by Given Refused loadsValues (λ l. loadsValues (Given l)) (λ l. refl) (λ r. refl) (siteRule s) (loadsOf (termsOf s)))
+      (is, ap loadsValues is ∙ values-by Given Refused loadsValues loadNumbers (λ l. refl) (λ r. refl) (siteRule s) (loadsOf (termsOf s)))

@@ -1,6 +1,8 @@
 -- Laws of products and quotients.
-use Prim.Native.Nat.{ℕ, _*_, _/_, _≤_, _<_}
-use native.Mathlib.Nat.{mul-comm, mul-le-mul, mul-le-mul-left, mul-le-mul-right, le-trans, le-div-iff-mul-le, div-mul-le-self, div-le-of-le-mul}
+use Prim.Native.Nat.{ℕ, suc, _+_, _*_, _-_, _/_, _≤_, _<_}
+use native.Mathlib.Omega.{arith}
+use native.Mathlib.Nat.{mul-comm, mul-le-mul, mul-le-mul-left, mul-le-mul-right, le-trans, le-div-iff-mul-le, div-mul-le-self, div-le-of-le-mul, div-lt-iff-lt-mul}
+use Rattle.loads.specs.Rounding.{up}
 
 -- a product of bounded factors; the bounds are written, so that `omega` can show a factor's bound
 pub prod : (a b : ℕ) {x y : ℕ} → x ≤ a → y ≤ b → x * y ≤ a * b
@@ -17,3 +19,14 @@ part-le x p h = div-le-of-le-mul 100 (rw (mul-comm 100 x) (mul-le-mul-left x h))
 -- a quotient, from a bound of the divisor below
 pub quotient-le : (a r k n : ℕ) → k ≤ r → a ≤ k * n → a / r ≤ n
 quotient-le a r k n h l = div-le-of-le-mul r (le-trans l (mul-le-mul-right n h))
+
+-- a quotient, up, is the least whole number that is enough
+pub up-le : (x d k : ℕ) → 0 < d → x ≤ k * d → up x d ≤ k
+unfolding up
+up-le x d k p h = let z : (x + (d - 1)) / d < suc k = div-lt-iff-lt-mul p .1 (omega arith) in omega arith
+
+pub up-enough : (x d : ℕ) → 0 < d → x ≤ up x d * d
+unfolding up
+up-enough x d p =
+    let z : x + (d - 1) < suc (up x d) * d = div-lt-iff-lt-mul p .0 (omega arith) in
+    omega arith

@@ -12,11 +12,11 @@ use Rattle.site.specs.declared.Site.{Site}
 use Rattle.loads.specs.Rounding.{up}
 use Rattle.loads.specs.MostTerms.{mostWeathering, mostAvailable, mostA}
 use Rattle.loads.specs.Texture.{textureOf}
-use Rattle.loads.specs.Weathering.{classOf, weatheringOf, weathering, availableWeathering}
-use Rattle.loads.specs.Uptake.{baseIn, nitrogenIn, standSum, nitrogenUptake, baseDemand, baseUptakeOf, baseUptake}
-use Rattle.loads.specs.Supply.{baseSupply, aluminiumLimit}
+use Rattle.loads.specs.Weathering.{classOf, weatheringOf, weathering, availableOf, availableWeathering}
+use Rattle.loads.specs.Uptake.{baseIn, nitrogenIn, standSum, uptakeDivisor, nitrogenUptake, baseDemand, baseUptakeOf, baseUptake}
+use Rattle.loads.specs.Supply.{baseSupply, limitOf, aluminiumLimit}
 use Rattle.loads.specs.Hydrogen.{hydrogen, aluminium, greatestLevel, criticalLeaching}
-use Rattle.loads.specs.Nitrogen.{undenitrified, undenitrifiedOf, leaching}
+use Rattle.loads.specs.Nitrogen.{undenitrified, undenitrifiedOf, leachingOf, leaching}
 use Rattle.loads.specs.Terms.{TermBounds}
 use Rattle.loads.specs.SiteTerms.{termsOf}
 use Rattle.loads.specs.CriticalLoads.{maxS, minN}
@@ -25,7 +25,7 @@ use Rattle.loads.proofs.Numbers.{prod, part-le, quotient-le}
 use Rattle.loads.proofs.Tables.{class-le, undenitrified-le, undenitrified-pos}
 use Rattle.loads.proofs.TextureLaws.{texture-between}
 
-pub pick-le : {x y k : ℕ} (b : Bool) → x ≤ k → y ≤ k → pick b x y ≤ k
+pick-le : {x y k : ℕ} (b : Bool) → x ≤ k → y ≤ k → pick b x y ≤ k
 pick-le true h i = h
 pick-le false h i = i
 
@@ -34,23 +34,23 @@ module _ (s : Site) where
   unfolding weathering
   weathering-is = refl
 
-  pub available-is : availableWeathering s ≡ weathering s * (s .available) / 100
+  pub available-is : availableWeathering s ≡ availableOf (weathering s) (s .available)
   unfolding availableWeathering
   available-is = refl
 
-  pub demand-is : baseDemand s ≡ (standSum baseIn (s .stand) (s .entries) + 9999999) / 10000000
+  pub demand-is : baseDemand s ≡ (standSum baseIn (s .stand) (s .entries) + (uptakeDivisor - 1)) / uptakeDivisor
   unfolding baseDemand up
   demand-is = refl
 
-  pub baseUptake-is : baseUptake s ≡ min (baseDemand s) ((s .«base_deposition») + availableWeathering s - up (s .percolation) 10)
+  baseUptake-is : baseUptake s ≡ min (baseDemand s) ((s .«base_deposition») + availableWeathering s - up (s .percolation) 10)
   unfolding baseUptake baseUptakeOf
   baseUptake-is = refl
 
-  pub supply-is : termsOf s .supply ≡ (s .«base_deposition») + weathering s - baseUptake s
+  supply-is : termsOf s .supply ≡ (s .«base_deposition») + weathering s - baseUptake s
   unfolding termsOf baseSupply
   supply-is = refl
 
-  pub limit-is : termsOf s .A ≡ 1500 * ((s .«base_deposition») + availableWeathering s - baseUptake s) / (s .ratio)
+  limit-is : termsOf s .A ≡ limitOf ((s .«base_deposition») + availableWeathering s - baseUptake s) (s .ratio)
   unfolding termsOf aluminiumLimit
   limit-is = refl
 
@@ -58,7 +58,7 @@ module _ (s : Site) where
   unfolding termsOf undenitrified
   undenitrified-is = refl
 
-  pub leaching-is : termsOf s .L ≡ (s .percolation) * (s .leachate) / 100
+  pub leaching-is : termsOf s .L ≡ leachingOf (s .percolation) (s .leachate)
   unfolding termsOf leaching
   leaching-is = refl
 
@@ -69,7 +69,7 @@ module _ (s : Site) where
   unfolding termsOf baseSupply aluminiumLimit baseUptake maxS criticalLeaching hydrogen aluminium greatestLevel acidLoad
   maxS-plain = refl
 
-  pub minN-plain : minN (termsOf s) ≡ standSum nitrogenIn (s .stand) (s .entries) / 10000000 + s .immobilisation
+  pub minN-plain : minN (termsOf s) ≡ standSum nitrogenIn (s .stand) (s .entries) / uptakeDivisor + s .immobilisation
   unfolding termsOf minN nitrogenUptake
   minN-plain = refl
 
@@ -120,5 +120,4 @@ module _ (s : Site) (b : Bounds s) where
     H-le = b .ceiling;
     e-least = rw (undenitrified-is s) (undenitrified-pos (s .drainage) (b .drainage));
     e-most = rw (undenitrified-is s) (undenitrified-le (s .drainage));
-    L-le = omega (arith, leaching-is s, mul-le-mul (b .percolation) (b .leachate));
   }

@@ -2,19 +2,15 @@
 use Prim.Native.Nat.{ℕ, _+_, _-_, _≤_, _<_}
 use mathlib.Core.Bool.{Bool, true, _&&_, _||_}
 use mathlib.Core.Path.{_≡_, refl}
-use mathlib.Core.Logic.{_⊎_, inl, inr, ⊎-elim}
 use mathlib.Core.List.{[], _∷_}
 use native.Mathlib.Omega.{arith}
 use borrow.Author.Tests.{leb-true, ne-eqb}
 use lib.Dec.{leb, eqb}
 use lib.ListN.{List·getD-eq-default}
-use Rattle.site.proofs.Tests.{le-or-lt, and-l, and-r}
+use Rattle.site.proofs.Tests.{and-l, and-r}
 use Rattle.site.proofs.BelowLaws.{allBelow, one-below}
 use Rattle.loads.specs.Weathering.{classOf}
 use Rattle.loads.specs.Nitrogen.{denitrified, undenitrifiedOf}
-
-pub lt-or-le : (a b : ℕ) → (a < b) ⊎ (b ≤ a)
-lt-or-le a b = ⊎-elim (λ h. inr h) (λ h. inl h) (le-or-lt b a)
 
 -- class k is 20 at most, and 1 at least where the parent material is not organic
 abbrev classTest : ℕ → ℕ → Bool

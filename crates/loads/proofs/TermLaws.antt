@@ -48,7 +48,7 @@ module _ (t : Terms) where
   unfolding greatestLevel aluminium
   greatest-limit = level-allowed (t .Q) (t .K) (t .A) (t .H)
 
-  pub greatest-of-all : (h : ℕ) → h ≤ t .H → aluminium t h ≤ t .A → h ≤ greatestLevel t
+  greatest-of-all : (h : ℕ) → h ≤ t .H → aluminium t h ≤ t .A → h ≤ greatestLevel t
   unfolding greatestLevel aluminium
   greatest-of-all = level-greatest (t .Q) (t .K) (t .A) (t .H)
 

@@ -42,14 +42,14 @@ module _ (clay sand : ℕ) where
       let g : clay < 60 = omega arith in
       simp (lt-leb 60 clay g, lt-leb 35 clay k, le-ltb sand 15 j, le-ltb clay 18 h)
 
-between : {x y : ℕ} (b : Bool) → (1 ≤ x) × (x ≤ 5) → (1 ≤ y) × (y ≤ 5) → (1 ≤ pick b x y) × (pick b x y ≤ 5)
-between true h i = h
-between false h i = i
+pick-between : {x y : ℕ} (b : Bool) → (1 ≤ x) × (x ≤ 5) → (1 ≤ y) × (y ≤ 5) → (1 ≤ pick b x y) × (pick b x y ≤ 5)
+pick-between true h i = h
+pick-between false h i = i
 
 pub texture-between : (clay sand : ℕ) → (1 ≤ textureOf clay sand) × (textureOf clay sand ≤ 5)
 unfolding textureOf
 texture-between clay sand =
-    between (leb 60 clay) (omega arith)
-    (between (leb 35 clay) (omega arith)
-    (between (ltb sand 15) (omega arith)
-    (between (ltb clay 18 && leb 65 sand) (omega arith) (omega arith))))
+    pick-between (leb 60 clay) (omega arith)
+    (pick-between (leb 35 clay) (omega arith)
+    (pick-between (ltb sand 15) (omega arith)
+    (pick-between (ltb clay 18 && leb 65 sand) (omega arith) (omega arith))))

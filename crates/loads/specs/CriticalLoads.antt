@@ -1,9 +1,10 @@
--- The four loads from the terms, and what the call answers. No difference of the terms is cut off at a site that passes the check:
--- `PartBounds` in `proofs/SiteTermLaws.antt`, and for class k and d the rules of their tables in `proofs/Tables.antt`.
+-- The four loads from the terms, and what the call answers. One difference of the terms is cut off: B + w − Q/10 in Bu, which is 0 where it is
+-- negative, as document 01 wants. No other is at a site that passes the check: `PartBounds` in `proofs/SiteTermLaws.antt`, for the place of a
+-- texture class `texture-between` in `proofs/TextureLaws.antt`, for class k and d the rules of their tables in `proofs/Tables.antt`.
 use Prim.Native.Nat.{ℕ, _+_, _*_, _/_}
 use mathlib.Core.List.{List, [], _∷_}
 use Rattle.site.specs.declared.Site.{Site}
-use Rattle.site.specs.Refusal.{ruleNumber}
+use Rattle.site.specs.Refusal.{refusalValues}
 use Rattle.site.specs.Check.{siteRule}
 use Rattle.site.specs.ByCheck.{answerIf}
 use Rattle.loads.specs.declared.Loads.{Loads}
@@ -32,10 +33,14 @@ nutN t = minN t + 1000 * t .L / t .e
 unfoldable pub loadsOf : Terms → Loads
 loadsOf t = record { «max_s» = maxS t; «min_n» = minN t; «max_n» = maxN t; «nut_n» = nutN t }
 
+-- CLmaxS, CLminN, CLmaxN, CLnutN
+unfoldable pub loadNumbers : Loads → List ℕ
+loadNumbers l = l .«max_s» ∷ l .«min_n» ∷ l .«max_n» ∷ l .«nut_n» ∷ []
+
 unfoldable pub loadsAnswer : Site → LoadsAnswer
 loadsAnswer s = answerIf Given Refused (siteRule s) (loadsOf (termsOf s))
 
 -- the values of each case: the loads, or the refusal's number and offset
 unfoldable pub loadsValues : LoadsAnswer → List ℕ
-loadsValues (Given l) = l .«max_s» ∷ l .«min_n» ∷ l .«max_n» ∷ l .«nut_n» ∷ []
-loadsValues (Refused r) = ruleNumber r ∷ 0 ∷ []
+loadsValues (Given l) = loadNumbers l
+loadsValues (Refused r) = refusalValues r

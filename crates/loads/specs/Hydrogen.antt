@@ -4,7 +4,7 @@ use mathlib.Core.Bool.{Bool}
 use mathlib.Core.List.{List, [], _∷_}
 use lib.Dec.{leb}
 use Rattle.site.specs.Choice.{pick}
-use Rattle.site.specs.Refusal.{ruleNumber, andThen}
+use Rattle.site.specs.Refusal.{andThen, refusalValues}
 use Rattle.site.specs.ByCheck.{answerIf}
 use Rattle.site.specs.Ranges.{percolationRange, gibbsiteRange, ceilingRange}
 use Rattle.site.specs.Values.{between}
@@ -54,4 +54,4 @@ levelAnswer q k limit ceiling = answerIf Greatest Refused (levelRule q k ceiling
 -- the values of each case: the level, or the refusal's number and offset
 unfoldable pub levelValues : LevelAnswer → List ℕ
 levelValues (Greatest h) = h ∷ []
-levelValues (Refused r) = ruleNumber r ∷ 0 ∷ []
+levelValues (Refused r) = refusalValues r

@@ -1,11 +1,12 @@
 -- What the private functions ask of their numbers, and what they give beside the value.
-use Prim.Native.Nat.{ℕ, _+_, _*_, _-_, _/_, _≤_, _<_}
+use Prim.Native.Nat.{ℕ, _+_, _*_, _-_, _≤_, _<_}
 use mathlib.Core.Path.{_≡_}
 use mathlib.Core.List.{List}
 use Rattle.site.specs.declared.Entry.{Entry}
 use Rattle.site.specs.Ranges.{mostEntries, percolationRange, gibbsiteRange, ceilingRange, baseDepositionRange}
 use Rattle.loads.specs.MostTerms.{mostWeathering, mostA, mostMaxS, mostMinN, mostL, mostNitrogenWeight, mostBaseWeight}
 use Rattle.loads.specs.Uptake.{nitrogenIn, baseIn, weightOf, standSum, baseUptakeOf}
+use Rattle.loads.specs.Supply.{limitOf}
 use Rattle.loads.specs.Hydrogen.{hydrogenOf, alOf, levelOf}
 
 -- percolation, gibbsite constant, and a hydrogen level or ceiling
@@ -50,5 +51,5 @@ pub record NitrogenBounds (c m leached e : ℕ) : Type 0 where
 unfoldable pub acidLoad : (b q weathered available demand ratio k ceiling : ℕ) → ℕ
 acidLoad b q weathered available demand ratio k ceiling =
     let taken = baseUptakeOf demand (b + available) q in
-    let h = levelOf q k (1500 * (b + available - taken) / ratio) ceiling in
+    let h = levelOf q k (limitOf (b + available - taken) ratio) ceiling in
     b + weathered - taken + (hydrogenOf q h + alOf q k h)

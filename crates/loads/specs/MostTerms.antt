@@ -1,6 +1,7 @@
 -- Upper bounds of the terms at a site that passes the check, and of the loads and sums made of them, each written once.
 use Prim.Native.Nat.{ℕ, _+_, _*_, _-_, _/_}
 use Rattle.site.specs.Ranges.{depthRange, percolationRange, mostEntries, shareRange, mostYield, immobilisationRange, availableRange, baseDepositionRange, ratioRange, ceilingRange, leachateRange}
+use Rattle.loads.specs.Uptake.{uptakeDivisor}
 
 -- W, at class 20; 19500
 abbrev pub mostWeathering : ℕ
@@ -39,4 +40,4 @@ mostBaseWeight = shareRange .most * mostYield * (3 * 65535)
 
 -- CLminN, without the use of the shares adding up to 100; 52928
 abbrev pub mostMinN : ℕ
-mostMinN = mostEntries * mostNitrogenWeight / 10000000 + immobilisationRange .most
+mostMinN = mostEntries * mostNitrogenWeight / uptakeDivisor + immobilisationRange .most

@@ -16,5 +16,8 @@ unfoldable pub undenitrified : Site → ℕ
 undenitrified s = undenitrifiedOf (s .drainage)
 
 -- L
+abbrev pub leachingOf : (q c : ℕ) → ℕ
+leachingOf q c = q * c / 100
+
 unfoldable pub leaching : Site → ℕ
-leaching s = (s .percolation) * (s .leachate) / 100
+leaching s = leachingOf (s .percolation) (s .leachate)

@@ -8,6 +8,9 @@ use Rattle.loads.specs.Uptake.{baseUptake}
 unfoldable pub baseSupply : Site → ℕ
 baseSupply s = (s .«base_deposition») + weathering s - baseUptake s
 
--- A
+-- A, where left is B + w − Bu
+abbrev pub limitOf : (left ratio : ℕ) → ℕ
+limitOf left ratio = 1500 * left / ratio
+
 unfoldable pub aluminiumLimit : Site → ℕ
-aluminiumLimit s = 1500 * ((s .«base_deposition») + availableWeathering s - baseUptake s) / (s .ratio)
+aluminiumLimit s = limitOf ((s .«base_deposition») + availableWeathering s - baseUptake s) (s .ratio)

@@ -1,7 +1,7 @@
 -- The terms of document 01 at a site, under its letters. Loads and balances are defined on these alone.
 use Prim.Native.Nat.{ℕ, _≤_}
 use Rattle.site.specs.Ranges.{percolationRange, ceilingRange}
-use Rattle.loads.specs.MostTerms.{mostSupply, mostA, mostL}
+use Rattle.loads.specs.MostTerms.{mostSupply, mostA}
 
 pub record Terms : Type 0 where
   pub Nu : ℕ  -- nitrogen uptake that the site offers
@@ -22,4 +22,3 @@ pub record TermBounds (t : Terms) : Type 0 where
   pub H-le : t .H ≤ ceilingRange .most
   pub e-least : 1 ≤ t .e
   pub e-most : t .e ≤ 1000
-  pub L-le : t .L ≤ mostL

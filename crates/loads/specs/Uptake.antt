@@ -44,12 +44,16 @@ sumOver f (e ∷ es) = f e + sumOver f es
 unfoldable pub standSum : (ℕ → ℕ) → List Entry → ℕ → ℕ
 standSum contentIn stand n = sumOver (weightOf contentIn) (take n stand)
 
+-- what a sum is divided by, once: 100 percent × 1000 kg per tonne × 100 hundredths
+abbrev pub uptakeDivisor : ℕ
+uptakeDivisor = 10000000
+
 -- Nu
 unfoldable pub nitrogenUptake : Site → ℕ
-nitrogenUptake s = standSum nitrogenIn (s .stand) (s .entries) / 10000000
+nitrogenUptake s = standSum nitrogenIn (s .stand) (s .entries) / uptakeDivisor
 
 unfoldable pub baseDemand : Site → ℕ
-baseDemand s = up (standSum baseIn (s .stand) (s .entries)) 10000000
+baseDemand s = up (standSum baseIn (s .stand) (s .entries)) uptakeDivisor
 
 -- Bu, where bases are B + w: the demand, at most B + w − Q/10, and 0 where this is negative: the subtraction of ℕ gives 0 there
 unfoldable pub baseUptakeOf : (demand bases q : ℕ) → ℕ

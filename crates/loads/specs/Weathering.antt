@@ -27,6 +27,9 @@ weatheringOf parent clay sand depth = pick (eqb parent 0) 0 ((500 * classOf pare
 unfoldable pub weathering : Site → ℕ
 weathering s = weatheringOf (s .parent) (s .clay) (s .sand) (s .depth)
 
--- w
+-- w, where weathered is W and share is p
+abbrev pub availableOf : (weathered share : ℕ) → ℕ
+availableOf weathered share = weathered * share / 100
+
 unfoldable pub availableWeathering : Site → ℕ
-availableWeathering s = weathering s * (s .available) / 100
+availableWeathering s = availableOf (weathering s) (s .available)

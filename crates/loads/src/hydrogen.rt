@@ -1,9 +1,10 @@
 // The aluminium limit, and the hydrogen level.
 ghost use mathlib.Core.Path.{_≡_};
-ghost use Prim.Native.Nat.{_+_, _*_, _/_, _≤_, _<_};
+ghost use Prim.Native.Nat.{_+_, _*_, _≤_, _<_};
 ghost use mathlib.Core.List.{[], _∷_};
 ghost use Rattle.site.specs.Refusal.{valuesIf};
 ghost use Rattle.loads.specs.MostTerms.{mostSupply, mostA, mostHydrogen};
+ghost use Rattle.loads.specs.Supply.{limitOf};
 ghost use Rattle.loads.specs.Hydrogen.{hydrogenOf, alOf, levelOf, levelRule, levelAnswer, levelValues};
 ghost use Rattle.loads.specs.LoadsConditions.{Levels};
 use crate::LevelAnswer;
@@ -16,7 +17,7 @@ use site::wide16;
 // A: left is B + w − Bu
 pub fn aluminium_limit(left: u64, ratio: u64) -> u64
     requires { ⌜ (left ≤ mostSupply) × (0 < ratio) × (1500 * left ≤ mostA * ratio) ⌝ }
-    ensures { λ r. ⌜ (r ≡ 1500 * left / ratio) × (r ≤ mostA) ⌝ }
+    ensures { λ r. ⌜ (r ≡ limitOf left ratio) × (r ≤ mostA) ⌝ }
 {
     1500 * left / ratio
 }

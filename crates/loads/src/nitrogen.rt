@@ -1,9 +1,9 @@
 // The part of nitrogen that is not denitrified, and the acceptable leaching.
 ghost use mathlib.Core.Path.{_≡_};
-ghost use Prim.Native.Nat.{_*_, _/_, _≤_};
-ghost use Rattle.site.specs.Ranges.{percolationRange, leachateRange};
+ghost use Prim.Native.Nat.{_≤_};
+ghost use Rattle.site.specs.Ranges.{drainageRange, percolationRange, leachateRange};
 ghost use Rattle.loads.specs.MostTerms.{mostL};
-ghost use Rattle.loads.specs.Nitrogen.{denitrified, undenitrifiedOf};
+ghost use Rattle.loads.specs.Nitrogen.{denitrified, undenitrifiedOf, leachingOf};
 ghost use Rattle.loads.specs.SiteTerms.{termsOf};
 use site::Site;
 use site::wide;
@@ -13,7 +13,7 @@ use site::wide16;
 const DENITRIFIED: [u16; 6] = [0, 100, 200, 400, 700, 800];
 
 fn denitrified_in(drainage: usize) -> u64
-    requires { ⌜ drainage ≤ 5 ⌝ }
+    requires { ⌜ drainage ≤ drainageRange .most ⌝ }
     ensures { λ r. ⌜ (r ≡ denitrified drainage) × (r ≤ 1000) ⌝ }
 {
     wide16(DENITRIFIED[drainage])
@@ -40,7 +40,7 @@ pub fn undenitrified_at(s: Site) -> u64
 // L
 pub fn leaching_of(q: u64, c: u64) -> u64
     requires { ⌜ (q ≤ percolationRange .most) × (c ≤ leachateRange .most) ⌝ }
-    ensures { λ r. ⌜ (r ≡ q * c / 100) × (r ≤ mostL) ⌝ }
+    ensures { λ r. ⌜ (r ≡ leachingOf q c) × (r ≤ mostL) ⌝ }
 {
     q * c / 100
 }

@@ -4,7 +4,7 @@ ghost use mathlib.Core.List.{[]};
 ghost use Prim.Native.Nat.{_≤_};
 ghost use lib.ListN.{getD};
 ghost use Rattle.site.specs.Bounds.{EntryBounds, StandBounds};
-ghost use Rattle.site.specs.Ranges.{percolationRange};
+ghost use Rattle.site.specs.Ranges.{percolationRange, mostSpecies};
 ghost use Rattle.loads.specs.Uptake.{speciesTable, baseUptakeOf};
 ghost use Rattle.loads.specs.LoadsConditions.{Weighed, Summed};
 use site::Entry;
@@ -27,7 +27,7 @@ const CONTENTS: [[u16; 4]; 9] = [
 
 // The contents of a species.
 fn contents_of(species: usize) -> [u16; 4]
-    requires { ⌜ species ≤ 8 ⌝ }
+    requires { ⌜ species ≤ mostSpecies ⌝ }
     ensures { λ r. ⌜ r ≡ getD speciesTable species [] ⌝ }
 {
     CONTENTS[species]

@@ -1,9 +1,9 @@
 // Weathering W and its available part w.
 ghost use mathlib.Core.Path.{_≡_};
-ghost use Prim.Native.Nat.{_*_, _/_, _≤_};
-ghost use Rattle.site.specs.Ranges.{availableRange};
+ghost use Prim.Native.Nat.{_≤_};
+ghost use Rattle.site.specs.Ranges.{parentRange, availableRange};
 ghost use Rattle.loads.specs.MostTerms.{mostWeathering};
-ghost use Rattle.loads.specs.Weathering.{classOf, weatheringOf};
+ghost use Rattle.loads.specs.Weathering.{classOf, weatheringOf, availableOf};
 ghost use Rattle.loads.specs.Texture.{textureOf};
 use crate::texture::texture_of;
 use crate::texture::texture_place;
@@ -20,7 +20,7 @@ const CLASSES: [[u8; 5]; 5] = [
 ];
 
 fn class_of(parent: usize, clay: u8, sand: u8) -> u64
-    requires { ⌜ parent ≤ 4 ⌝ }
+    requires { ⌜ parent ≤ parentRange .most ⌝ }
     ensures { λ r. ⌜ r ≡ classOf parent (textureOf clay sand) ⌝ }
 {
     let place = texture_place(texture_of(clay, sand));
@@ -28,7 +28,7 @@ fn class_of(parent: usize, clay: u8, sand: u8) -> u64
 }
 
 pub fn weathering_of(parent: u8, clay: u8, sand: u8, depth: u8) -> u64
-    requires { ⌜ parent ≤ 4 ⌝ }
+    requires { ⌜ parent ≤ parentRange .most ⌝ }
     ensures { λ r. ⌜ r ≡ weatheringOf parent clay sand depth ⌝ }
 {
     if parent == 0 {
@@ -40,7 +40,7 @@ pub fn weathering_of(parent: u8, clay: u8, sand: u8, depth: u8) -> u64
 
 pub fn available_of(weathered: u64, share: u64) -> u64
     requires { ⌜ (weathered ≤ mostWeathering) × (share ≤ availableRange .most) ⌝ }
-    ensures { λ r. ⌜ (r ≡ weathered * share / 100) × (r ≤ weathered) ⌝ }
+    ensures { λ r. ⌜ (r ≡ availableOf weathered share) × (r ≤ weathered) ⌝ }
 {
     weathered * share / 100
 }

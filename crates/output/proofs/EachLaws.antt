@@ -9,7 +9,7 @@ use lib.Seq.{take-suc, take-add, take-length}
 use Rattle.output.specs.Writing.{each}
 
 module _ {A B : Type 0} (f : A → List B) where
-  pub each-append : (xs ys : List A) → each f (xs ++ ys) ≡ each f xs ++ each f ys
+  each-append : (xs ys : List A) → each f (xs ++ ys) ≡ each f xs ++ each f ys
   unfolding each
   each-append [] ys = refl
   each-append (x ∷ xs) ys = ap (λ (l : List B). f x ++ l) (each-append xs ys) ∙ sym (append-assoc (f x) (each f xs) (each f ys))
@@ -23,7 +23,7 @@ module _ {A B : Type 0} (f : A → List B) where
   length-more xs i d h = ap length (each-more xs i d h) ∙ length-append (each f (take i xs)) (f (getD xs i d))
 
   -- fewer elements are no longer
-  pub each-le : (xs : List A) (i n : ℕ) → i ≤ n → length (each f (take i xs)) ≤ length (each f (take n xs))
+  each-le : (xs : List A) (i n : ℕ) → i ≤ n → length (each f (take i xs)) ≤ length (each f (take n xs))
   each-le xs i n h =
       let e : n ≡ i + (n - i) = omega arith in
       rw (e, take-add i (n - i) xs, each-append, length-append) (omega arith)

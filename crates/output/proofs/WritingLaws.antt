@@ -10,20 +10,20 @@ use lib.Seq.{take-suc, take-all, set-comm, sets, sets-eq}
 use Rattle.output.specs.Writing.{write, Wrote, WroteIf}
 
 module _ {A : Type 0} where
-  pub length-write : (d : List A) (at : ℕ) (xs : List A) → length (write d at xs) ≡ length d
+  length-write : (d : List A) (at : ℕ) (xs : List A) → length (write d at xs) ≡ length d
   unfolding write
   length-write d at [] = refl
   length-write d at (x ∷ xs) = length-write (set d at x) (suc at) xs ∙ length-set d at x
 
   -- one run after another is one run
-  pub write-append : (d : List A) (at : ℕ) (xs ys : List A) → write (write d at xs) (at + length xs) ys ≡ write d at (xs ++ ys)
+  write-append : (d : List A) (at : ℕ) (xs ys : List A) → write (write d at xs) (at + length xs) ys ≡ write d at (xs ++ ys)
   unfolding write
   write-append d at [] ys = ap (λ (k : ℕ). write d k ys) (add-zero at)
   write-append d at (x ∷ xs) ys =
       ap (λ (k : ℕ). write (write (set d at x) (suc at) xs) k ys) (omega arith) ∙ write-append (set d at x) (suc at) xs ys
 
   -- a store in front of a run
-  pub set-write : (d : List A) (i k : ℕ) (xs : List A) (x : A) → i < k → set (write d k xs) i x ≡ write (set d i x) k xs
+  set-write : (d : List A) (i k : ℕ) (xs : List A) (x : A) → i < k → set (write d k xs) i x ≡ write (set d i x) k xs
   unfolding write
   set-write d i k [] x h = refl
   set-write d i k (y ∷ ys) x h =
@@ -39,7 +39,7 @@ module _ {A : Type 0} where
   write-sets d at (x ∷ xs) = write-sets (set d at x) (suc at) xs
 
   -- the form for a contract that users read
-  pub write-eq : (d : List A) (at : ℕ) (xs : List A) → at + length xs ≤ length d → write d at xs ≡ take at d ++ xs ++ drop (at + length xs) d
+  write-eq : (d : List A) (at : ℕ) (xs : List A) → at + length xs ≤ length d → write d at xs ≡ take at d ++ xs ++ drop (at + length xs) d
   write-eq d at xs h = write-sets d at xs ∙ sets-eq xs d at h
 
   -- ---- chains of writes
@@ -72,9 +72,6 @@ module _ {A : Type 0} where
   -- what the next run needs, from what the whole needed
   pub room : {d e : List A} {at r : ℕ} {xs : List A} (ys : List A) → Wrote d at xs e r → at + length (xs ++ ys) ≤ length d → r + length ys ≤ length e
   room {d} {e} {at} {r} {xs} ys w h = omega (arith, length-append xs ys, w .next, kept w)
-
-  pub front : (at : ℕ) {m : ℕ} (xs ys : List A) → at + length (xs ++ ys) ≤ m → at + length xs ≤ m
-  front at xs ys h = omega (arith, length-append xs ys)
 
   wrote-at : {d e : List A} {at r : ℕ} {xs : List A} → Wrote d at xs e r → at + length xs ≤ length d → e ≡ take at d ++ xs ++ drop (at + length xs) d
   wrote-at {d} {e} {at} {r} {xs} w h = w .text ∙ write-eq d at xs h

@@ -3,7 +3,7 @@ use mathlib.Core.Path.{_≡_}
 use mathlib.Core.Logic.{⊎-elim}
 use mathlib.Core.Bool.{true, _&&_}
 use mathlib.Core.List.{List}
-use Prim.Native.Nat.{ℕ, _+_, _≤_, _<_}
+use Prim.Native.Nat.{ℕ, _≤_, _<_}
 use native.Mathlib.Omega.{arith}
 use lib.Dec.{leb}
 use lib.ListN.{length, getD, take, length-take, List·getD-eq-default}
@@ -15,10 +15,10 @@ use Rattle.site.specs.declared.Rule.the-variants.{OutOfRange}
 use Rattle.site.specs.declared.Checked.the-variants.{Passed}
 use Rattle.site.specs.Bounds.{noEntry, EntryBounds, StandBounds, Bounds}
 use Rattle.site.specs.Check.{siteRule}
-use Rattle.site.specs.Ranges.{parentRange, mostTexture, depthRange, drainageRange, percolationRange, mostSpecies, shareRange, mostYield, immobilisationRange, availableRange, baseDepositionRange, ratioRange, gibbsiteRange, ceilingRange, leachateRange}
+use Rattle.site.specs.Ranges.{parentRange, depthRange, drainageRange, percolationRange, mostSpecies, shareRange, mostYield, immobilisationRange, availableRange, baseDepositionRange, ratioRange, gibbsiteRange, ceilingRange, leachateRange}
 use Rattle.site.specs.Values.{due, countRule, itemCount, valueRule, standRule, entryRanged, allOf, inside}
 use Rattle.site.proofs.Tests.{le-or-lt, and-l, and-r}
-use Rattle.site.proofs.Passing.{pass-then, ranged-passed, inside-both, between-passed}
+use Rattle.site.proofs.Passing.{pass-then, inside-both, between-passed}
 use Rattle.site.proofs.PartLaws.{all-at}
 use Rattle.site.proofs.LengthLaws.{count-parts}
 use Rattle.site.proofs.FieldLaws.{site-passed}
@@ -65,7 +65,6 @@ module _ (s : Site) (e : siteRule s ≡ Passed) where
   unfolding valueRule
   bounds = record {
     parent = between-passed parentRange (s .parent) (value-at 1 (omega arith)) .1;
-    texture = leb-true ((s .clay) + s .sand) mostTexture (ranged-passed _ (value-at 2 (omega arith)));
     depth = between-passed depthRange (s .depth) (value-at 3 (omega arith)) .1;
     drainage = between-passed drainageRange (s .drainage) (value-at 4 (omega arith)) .1;
     percolation = between-passed percolationRange (s .percolation) (value-at 5 (omega arith)) .1;

@@ -1,11 +1,11 @@
 -- What an answer by a check says of the check, and what its values are.
 use Prim.Native.Nat.{ℕ}
 use mathlib.Core.Path.{_≡_, refl, sym}
-use mathlib.Core.List.{List, [], _∷_}
+use mathlib.Core.List.{List}
 use Rattle.site.specs.declared.Rule.{Rule}
 use Rattle.site.specs.declared.Checked.{Checked}
 use Rattle.site.specs.declared.Checked.the-variants.{Passed, Broken}
-use Rattle.site.specs.Refusal.{ruleNumber, valuesIf}
+use Rattle.site.specs.Refusal.{refusalValues, valuesIf}
 use Rattle.site.specs.ByCheck.{answerIf}
 
 module _ {A B : Type 0} (given : A → B) (refused : Rule → B) where
@@ -23,7 +23,7 @@ module _ {A B : Type 0} (given : A → B) (refused : Rule → B) where
 
   -- the values of each case give those of the answer
   pub values-by :
-      (values : B → List ℕ) (of : A → List ℕ) → ((x : A) → values (given x) ≡ of x) → ((r : Rule) → values (refused r) ≡ ruleNumber r ∷ 0 ∷ [])
+      (values : B → List ℕ) (of : A → List ℕ) → ((x : A) → values (given x) ≡ of x) → ((r : Rule) → values (refused r) ≡ refusalValues r)
       → (c : Checked) (x : A) → values (answerIf given refused c x) ≡ valuesIf c (of x)
   unfolding answerIf valuesIf
   values-by values of g f Passed x = g x

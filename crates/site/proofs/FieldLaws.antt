@@ -1,16 +1,23 @@
 -- Laws of the check by tags: the field at place k of the tags due.
-use mathlib.Core.Path.{_≡_}
+use mathlib.Core.Path.{_≡_, refl}
 use mathlib.Core.Logic.{⊎-elim}
 use mathlib.Core.List.{List, [], _∷_}
 use Prim.Native.Nat.{ℕ, zero, suc, _≤_, _<_}
 use native.Mathlib.Omega.{arith}
 use lib.ListN.{length, getD, List·getD-eq-default}
 use Rattle.site.specs.declared.Site.{Site}
-use Rattle.site.specs.declared.Checked.the-variants.{Passed}
+use Rattle.site.specs.declared.Checked.{Checked}
+use Rattle.site.specs.declared.Checked.the-variants.{Passed, Broken}
+use Rattle.site.specs.Refusal.{andThen}
 use Rattle.site.specs.Values.{due, countRule, valueRule}
 use Rattle.site.specs.Check.{fieldsRule, siteRule}
 use Rattle.site.proofs.Tests.{le-or-lt}
 use Rattle.site.proofs.Passing.{both-passed}
+
+pub then-assoc : (a b c : Checked) → andThen (andThen a b) c ≡ andThen a (andThen b c)
+unfolding andThen
+then-assoc Passed b c = refl
+then-assoc (Broken r) b c = refl
 
 field-passed : (ds : List ℕ) (k : ℕ) (s : Site) → k < length ds → fieldsRule ds s ≡ Passed
     → (countRule (getD ds k 0) s ≡ Passed) × (valueRule (getD ds k 0) s ≡ Passed)

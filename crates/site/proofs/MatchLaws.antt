@@ -4,7 +4,7 @@ use Prim.Native.Nat.{ℕ, zero, suc, _+_, _≤_, _<_}
 use native.Mathlib.Omega.{arith}
 
 -- t is none of the n tags from a on
-abbrev pub NoneOf : ℕ → ℕ → ℕ → Type 0
+abbrev NoneOf : ℕ → ℕ → ℕ → Type 0
 NoneOf a zero t = Unit
 NoneOf a (suc n) t = NoneOf a n t × (t ≡ a + n → ⊥)
 

@@ -11,7 +11,7 @@ use Rattle.site.specs.declared.Checked.{Checked}
 use Rattle.site.specs.declared.Checked.the-variants.{Passed, Broken}
 use Rattle.site.specs.Choice.{pick}
 use Rattle.site.specs.Refusal.{ruleNumber, checkedNumber, Numbered, passes, bad-length, out-of-range, not-rising, shares-not-whole, andThen}
-use Rattle.site.specs.Ranges.{Range}
+use Rattle.site.specs.Ranges.{Range, shareSum}
 use Rattle.site.specs.Values.{itemsOf, itemCount, countRule, ranged, inside, between, entryRanged, risingFrom, sharesOf, orderRule, standRule, valueRules, valueRule, allOf}
 use Rattle.site.specs.Check.{fieldsRule, siteRule}
 use Rattle.site.proofs.PartLaws.{all-getD}
@@ -71,7 +71,7 @@ known-stand : (es : List Entry) → known (standRule es) ≡ true
 unfolding standRule known
 known-stand es =
     let rising = risingFrom 0 es in
-    let whole = eqb (sharesOf es) 100 in
+    let whole = eqb (sharesOf es) shareSum in
     known-pick (allOf entryRanged es) (orderRule rising whole) (Broken OutOfRange) (known-order rising whole) refl
 
 known-count : (t : ℕ) (s : Site) → known (countRule t s) ≡ true

@@ -13,6 +13,7 @@ use Rattle.site.specs.declared.Checked.{Checked}
 use Rattle.site.specs.declared.Checked.the-variants.{Broken}
 use Rattle.site.specs.Bounds.{noEntry}
 use Rattle.site.specs.Choice.{pick}
+use Rattle.site.specs.Ranges.{shareSum}
 use Rattle.site.specs.Values.{allOf, entryRanged, risingFrom, sharesOf, orderRule, standRule}
 use Rattle.site.proofs.PartLaws.{part-cons, part-end}
 
@@ -26,14 +27,14 @@ withEntry s e = record { rising = (s .rising) && leb (s .least) (e .species); le
 -- rules 8 to 10, with es the entries left
 unfoldable pub restRule : Seen → List Entry → Checked
 restRule s es =
-    pick (allOf entryRanged es) (orderRule ((s .rising) && risingFrom (s .least) es) (eqb (s .shares + sharesOf es) 100)) (Broken OutOfRange)
+    pick (allOf entryRanged es) (orderRule ((s .rising) && risingFrom (s .least) es) (eqb (s .shares + sharesOf es) shareSum)) (Broken OutOfRange)
 
 pub rest-start : (es : List Entry) → standRule es ≡ restRule start es
 unfolding standRule restRule
 rest-start es = rw zero-add
 
 module _ (n i : ℕ) (l : List Entry) (s : Seen) where
-  pub rest-end : min n (length l) ≤ i → restRule s (drop i (take n l)) ≡ orderRule (s .rising) (eqb (s .shares) 100)
+  pub rest-end : min n (length l) ≤ i → restRule s (drop i (take n l)) ≡ orderRule (s .rising) (eqb (s .shares) shareSum)
   unfolding restRule allOf risingFrom sharesOf
   rest-end h = rw (part-end n i l h, and-true, add-zero)
 

@@ -1,6 +1,6 @@
 -- Laws of tests.
 use mathlib.Core.Path.{_≡_, refl}
-use mathlib.Core.Logic.{_⊎_, inl, inr}
+use mathlib.Core.Logic.{_⊎_, inl, inr, ⊎-elim}
 use mathlib.Core.Bool.{Bool, true, false, _&&_, false≢true}
 use Prim.Native.Nat.{ℕ, _≤_, _<_}
 use lib.Dec.{leb}
@@ -13,6 +13,9 @@ le-or-lt a b = by-test (leb a b) refl
     by-test : (t : Bool) → leb a b ≡ t → (a ≤ b) ⊎ (b < a)
     by-test true e = inl (leb-true a b e)
     by-test false e = inr (leb-false a b e)
+
+pub lt-or-le : (a b : ℕ) → (a < b) ⊎ (b ≤ a)
+lt-or-le a b = ⊎-elim (λ h. inr h) (λ h. inl h) (le-or-lt b a)
 
 pub and-l : (a b : Bool) → a && b ≡ true → a ≡ true
 and-l true b e = refl

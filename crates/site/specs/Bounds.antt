@@ -1,10 +1,10 @@
--- Upper bounds of the values of a site that passes the check, and the least ratio.
-use Prim.Native.Nat.{ℕ, _+_, _≤_, _<_}
+-- What the calculation leans on at a site that passes the check: upper bounds of its values, and the least ratio.
+use Prim.Native.Nat.{ℕ, _≤_, _<_}
 use mathlib.Core.List.{List}
 use lib.ListN.{getD}
 use Rattle.site.specs.declared.Site.{Site}
 use Rattle.site.specs.declared.Entry.{Entry}
-use Rattle.site.specs.Ranges.{parentRange, mostTexture, depthRange, drainageRange, percolationRange, mostEntries, mostSpecies, shareRange, mostYield, immobilisationRange, availableRange, baseDepositionRange, ratioRange, gibbsiteRange, ceilingRange, leachateRange}
+use Rattle.site.specs.Ranges.{parentRange, depthRange, drainageRange, percolationRange, mostEntries, mostSpecies, shareRange, mostYield, immobilisationRange, availableRange, baseDepositionRange, ratioRange, gibbsiteRange, ceilingRange, leachateRange}
 
 -- what stands past the end of a stand
 abbrev pub noEntry : Entry
@@ -22,7 +22,6 @@ pub record StandBounds (stand : List Entry) (n : ℕ) : Type 0 where
 
 pub record Bounds (s : Site) : Type 0 where
   pub parent : s .parent ≤ parentRange .most
-  pub texture : s .clay + s .sand ≤ mostTexture
   pub depth : s .depth ≤ depthRange .most
   pub drainage : s .drainage ≤ drainageRange .most
   pub percolation : s .percolation ≤ percolationRange .most

@@ -3,6 +3,7 @@ use Prim.Native.Nat.{ℕ, zero, suc, _+_, _*_}
 use mathlib.Core.List.{List, [], _∷_}
 use lib.ListN.{getD}
 use Rattle.site.specs.declared.Entry.{Entry}
+use Rattle.site.specs.Ranges.{mostName}
 
 abbrev pub wordOf : ℕ → ℕ → ℕ
 wordOf hi lo = 256 * hi + lo
@@ -18,7 +19,7 @@ tabulate (suc n) f = f 0 ∷ tabulate n (λ i. f (suc i))
 
 -- the bytes of a name
 abbrev pub nameIn : List ℕ → List ℕ
-nameIn bs = tabulate 8 (λ i. getD bs i 0)
+nameIn bs = tabulate mostName (λ i. getD bs i 0)
 
 -- the entry whose four bytes start at place i
 unfoldable pub entryAt : List ℕ → ℕ → Entry

@@ -1,7 +1,8 @@
 -- The check of a site value: rules 7 to 10, by the tags in order.
-use Prim.Native.Nat.{ℕ}
+use Prim.Native.Nat.{ℕ, _<_}
 use mathlib.Core.Path.{_≡_}
 use mathlib.Core.List.{List, [], _∷_, _++_}
+use lib.ListN.{length, getD}
 use Rattle.site.specs.declared.Site.{Site}
 use Rattle.site.specs.declared.Rule.{Rule}
 use Rattle.site.specs.declared.Checked.{Checked}
@@ -17,11 +18,11 @@ fieldsRule (t ∷ ts) s = andThen (andThen (countRule t s) (valueRule t s)) (fie
 unfoldable pub siteRule : Site → Checked
 siteRule s = fieldsRule due s
 
--- the first field with a broken rule: those before it pass, and its own first broken rule is r
+-- the first field with a broken rule: each one before it passes, and its own first broken rule is r
 pub record FirstBroken (ts : List ℕ) (s : Site) (r : Rule) : Type 0 where
   pub before : List ℕ
   pub tag : ℕ
   pub later : List ℕ
-  pub due : ts ≡ before ++ tag ∷ later
-  pub passed : fieldsRule before s ≡ Passed
+  pub order : ts ≡ before ++ tag ∷ later
+  pub passed : (k : ℕ) → k < length before → (countRule (getD before k 0) s ≡ Passed) × (valueRule (getD before k 0) s ≡ Passed)
   pub broken : andThen (countRule tag s) (valueRule tag s) ≡ Broken r

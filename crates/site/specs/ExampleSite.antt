@@ -32,6 +32,6 @@ a1 = record {
 }
 
 -- it passes the check
-passes : siteRule a1 ≡ Passed
+a1-passes : siteRule a1 ≡ Passed
 unfolding siteRule fieldsRule andThen itemCount countRule nameByte allOf between entryRanged risingFrom sharesOf standRule valueRule
-passes = refl
+a1-passes = refl

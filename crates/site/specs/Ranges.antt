@@ -29,7 +29,7 @@ drainageRange = record { least = 0; most = 5 }
 abbrev pub percolationRange : Range
 percolationRange = record { least = 1; most = 3000 }
 
--- 07 stand: entries, and of each species, share and yield
+-- 07 stand: entries, of each species, share and yield, and what the shares add up to
 abbrev pub mostEntries : ℕ
 mostEntries = 4
 
@@ -41,6 +41,9 @@ shareRange = record { least = 1; most = 100 }
 
 abbrev pub mostYield : ℕ
 mostYield = 20000
+
+abbrev pub shareSum : ℕ
+shareSum = 100
 
 -- 08 immobilisation Ni
 abbrev pub immobilisationRange : Range
@@ -69,6 +72,10 @@ ceilingRange = record { least = 1; most = 5000 }
 -- 0E acceptable nitrogen in leachate c
 abbrev pub leachateRange : Range
 leachateRange = record { least = 1; most = 1000 }
+
+-- 0F deposition S and N
+abbrev pub depositionRange : Range
+depositionRange = record { least = 0; most = 65535 }
 
 -- "Record, file, listing": a file is 1 to 500 records
 abbrev pub mostRecords : ℕ

@@ -5,7 +5,7 @@ use mathlib.Core.List.{List, [], _∷_}
 use lib.Dec.{leb, eqb}
 use lib.ListN.{getD, take}
 use Rattle.site.specs.Choice.{pick}
-use Rattle.site.specs.Ranges.{Range, mostName, parentRange, mostTexture, depthRange, drainageRange, percolationRange, mostEntries, mostSpecies, shareRange, mostYield, immobilisationRange, availableRange, baseDepositionRange, ratioRange, gibbsiteRange, ceilingRange, leachateRange}
+use Rattle.site.specs.Ranges.{Range, mostName, parentRange, mostTexture, depthRange, drainageRange, percolationRange, mostEntries, mostSpecies, shareRange, mostYield, shareSum, immobilisationRange, availableRange, baseDepositionRange, ratioRange, gibbsiteRange, ceilingRange, leachateRange}
 use Rattle.site.specs.declared.Site.{Site}
 use Rattle.site.specs.declared.Entry.{Entry}
 use Rattle.site.specs.declared.length.Items.{Items}
@@ -95,9 +95,9 @@ orderRule rising whole = pick rising (pick whole Passed (Broken SharesNotWhole))
 
 -- rule 8 over all entries, then 9, then 10
 unfoldable pub standRule : List Entry → Checked
-standRule es = pick (allOf entryRanged es) (orderRule (risingFrom 0 es) (eqb (sharesOf es) 100)) (Broken OutOfRange)
+standRule es = pick (allOf entryRanged es) (orderRule (risingFrom 0 es) (eqb (sharesOf es) shareSum)) (Broken OutOfRange)
 
--- rules 8, 9 and 10 of each field, by tag from 0; the deposition has no range
+-- rules 8, 9 and 10 of each field, by tag from 0; the deposition's range is all that two bytes hold, so it has no rule
 abbrev pub valueRules : Site → List Checked
 valueRules s =
     Passed

@@ -1,9 +1,10 @@
 // The check of a site value: rules 7 to 10 in tag order.
-ghost use mathlib.Core.List.{List, _∷_};
+ghost use mathlib.Core.List.{[], _∷_};
 ghost use mathlib.Core.Path.{_≡_};
-ghost use Prim.Native.Nat.{ℕ, _+_, _≤_};
+ghost use Prim.Native.Nat.{_+_, _≤_};
 ghost use Rattle.site.specs.Check.{fieldsRule, siteRule};
 ghost use Rattle.site.specs.Refusal.{andThen, checkedNumber, Numbered};
+ghost use Rattle.site.specs.Values.{countRule, valueRule};
 use crate::Checked;
 use crate::Site;
 use crate::length::count_rule;
@@ -21,7 +22,7 @@ fn both(a: Checked, b: Checked) -> Checked
 
 // A field, then what the check of the later ones says.
 fn check_field(site: Site, tag: u8, later: Checked) -> Checked
-    ensures { λ r. ⌜ ((ts : List ℕ) → later ≡ fieldsRule ts site → r ≡ fieldsRule (tag ∷ ts) site) ⌝ }
+    ensures { λ r. ⌜ r ≡ andThen (andThen (countRule tag site) (valueRule tag site)) later ⌝ }
 {
     let count = count_rule(site, tag);
     let value = value_rule(site, tag);
@@ -31,7 +32,7 @@ fn check_field(site: Site, tag: u8, later: Checked) -> Checked
 // Five fields from tag t on, then the later ones. With no loop each tag is a constant when this is inlined, and its rule a few tests.
 fn five_fields(site: Site, t: u8, later: Checked) -> Checked
     requires { ⌜ t ≤ 251 ⌝ }
-    ensures { λ r. ⌜ ((ts : List ℕ) → later ≡ fieldsRule ts site → r ≡ fieldsRule (t ∷ (t + 1) ∷ (t + 2) ∷ (t + 3) ∷ (t + 4) ∷ ts) site) ⌝ }
+    ensures { λ r. ⌜ r ≡ andThen (fieldsRule (t ∷ (t + 1) ∷ (t + 2) ∷ (t + 3) ∷ (t + 4) ∷ []) site) later ⌝ }
 {
     let e = check_field(site, t + 4, later);
     let d = check_field(site, t + 3, e);

@@ -1,9 +1,10 @@
 // Rules 8, 9 and 10 for the first n entries of the stand.
 ghost use mathlib.Core.Bool.{_&&_};
 ghost use mathlib.Core.Path.{_≡_};
-ghost use Prim.Native.Nat.{_+_, _≤_};
+ghost use Prim.Native.Nat.{_+_, _*_, _≤_};
 ghost use lib.Dec.{leb, eqb};
 ghost use lib.ListN.{take};
+ghost use Rattle.site.specs.Ranges.{mostEntries, shareRange, shareSum};
 ghost use Rattle.site.specs.Values.{entryRanged, orderRule, standRule};
 use crate::Checked;
 use crate::Entry;
@@ -31,7 +32,7 @@ struct Seen {
 }
 
 fn with_entry(seen: Seen, e: Entry) -> Seen
-    requires { ⌜ seen .shares ≤ 300 ⌝ }
+    requires { ⌜ seen .shares ≤ shareRange .most * mostEntries ⌝ }
     ensures { λ r. ⌜ r ≡ record { rising = (seen .rising) && leb (seen .least) (e .species); least = e .species + 1; shares = seen .shares + e .share } ⌝ }
 {
     let species = wide(e.species);
@@ -53,7 +54,7 @@ fn with_entry(seen: Seen, e: Entry) -> Seen
 
 // Rule 9, then 10.
 fn seen_rule(seen: Seen) -> Checked
-    ensures { λ r. ⌜ r ≡ orderRule (seen .rising) (eqb (seen .shares) 100) ⌝ }
+    ensures { λ r. ⌜ r ≡ orderRule (seen .rising) (eqb (seen .shares) shareSum) ⌝ }
 {
     if seen.rising {
         if seen.shares == 100 {

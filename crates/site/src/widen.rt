@@ -1,8 +1,7 @@
-// Raw numbers, widened.
+// Raw numbers, widened. The bound goes with the value, so that sums and products are seen to fit.
 ghost use mathlib.Core.Path.{_≡_};
 ghost use Prim.Native.Nat.{_≤_};
 
-// The bound goes with the value, so that sums and products are seen to fit.
 pub fn wide(b: u8) -> usize
     ensures { λ r. ⌜ (r ≡ b) × (r ≤ 255) ⌝ }
 {
@@ -10,7 +9,7 @@ pub fn wide(b: u8) -> usize
 }
 
 pub fn wide8(b: u8) -> u64
-    ensures { λ r. ⌜ r ≡ b ⌝ }
+    ensures { λ r. ⌜ (r ≡ b) × (r ≤ 255) ⌝ }
 {
     b as u64
 }

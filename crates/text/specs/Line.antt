@@ -2,7 +2,7 @@
 use Prim.Native.Nat.{ℕ}
 use mathlib.Core.List.{List, [], _∷_, _++_}
 use lib.ListN.{take, replicate}
-use Rattle.loads.specs.declared.Loads.{Loads}
+use Rattle.loads.specs.CriticalLoads.{loadNumbers}
 use Rattle.judgement.specs.declared.Verdict.the-variants.{Within}
 use Rattle.judgement.specs.Verdicts.{verdictNumbers, verdictWord}
 use Rattle.text.specs.declared.Row.{Row}
@@ -19,13 +19,9 @@ blankRow =
       verdict = Within;
     }
 
--- CLmaxS, CLminN, CLmaxN, CLnutN
-unfoldable pub loadNumbers : Loads → List ℕ → List ℕ
-loadNumbers l ns = l .«max_s» ∷ l .«min_n» ∷ l .«max_n» ∷ l .«nut_n» ∷ ns
-
 -- the seven numbers of a line
 unfoldable pub numbersOf : Row → List ℕ
-numbersOf r = loadNumbers (r .loads) (verdictNumbers (r .verdict))
+numbersOf r = loadNumbers (r .loads) ++ verdictNumbers (r .verdict)
 
 unfoldable pub nameText : Row → List ℕ
 nameText r = take (r .«name_len») (r .name)

@@ -5,7 +5,7 @@ use denote.Ref.{now}
 use Rattle.site.specs.Check.{siteRule}
 use Rattle.site.specs.declared.Rule.the-variants.{BadLength}
 use Rattle.site.specs.declared.Checked.the-variants.{Passed}
-use Rattle.loads.specs.CriticalLoads.{loadsOf}
+use Rattle.loads.specs.CriticalLoads.{loadNumbers}
 use Rattle.judgement.specs.Answers.{judgedOf}
 use Rattle.judgement.proofs.JudgementAnswers.{judgement-given, judgement-refused}
 use Rattle.exports.specs.Layout.{siteIn, valueCheck, loadsNumbers, judgementNumbers}
@@ -90,7 +90,7 @@ same-length : tie.Need-same-length
 same-length c = search needs
 
 returns-4 : tie.Need-returns-4
-unfolding judgementNumbers loadsNumbers judgedOf loadsOf
+unfolding judgementNumbers loadsNumbers judgedOf loadNumbers
 returns-4 c =
     let second = c .before .before in
     let first = second .before .before .before .before in

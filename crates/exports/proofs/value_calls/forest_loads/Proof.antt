@@ -7,7 +7,7 @@ use Rattle.site.specs.declared.Site.{Site}
 use Rattle.site.specs.declared.Rule.the-variants.{BadLength}
 use Rattle.site.specs.declared.Checked.the-variants.{Passed}
 use Rattle.loads.specs.SiteTerms.{termsOf}
-use Rattle.loads.specs.CriticalLoads.{loadsOf}
+use Rattle.loads.specs.CriticalLoads.{loadsOf, loadNumbers}
 use Rattle.loads.proofs.LoadsAnswers.{loads-given, loads-refused}
 use Rattle.exports.specs.Layout.{siteIn, valueCheck, loadsNumbers}
 use Rattle.exports.proofs.SiteValueLaws.{wrong-length, as-site, value-refused, value-short, value-written}
@@ -83,7 +83,7 @@ same-length : tie.Need-same-length
 same-length c = search needs
 
 returns-4 : tie.Need-returns-4
-unfolding loadsNumbers loadsOf
+unfolding loadsNumbers loadNumbers
 returns-4 c =
     let put = c .before .before in
     let told = put .before .before .before in

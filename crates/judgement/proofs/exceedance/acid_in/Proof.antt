@@ -1,10 +1,16 @@
-use mathlib.Core.Path.{sym, _∙_}
+use mathlib.Core.Path.{_≡_, sym, _∙_}
 use native.Mathlib.Omega.{arith}
-use Rattle.judgement.specs.Regions.{acidIn}
+use Rattle.judgement.specs.declared.Region.{Region}
+use Rattle.judgement.specs.Regions.{acidIn, Lies}
+use Rattle.judgement.proofs.RegionLaws.{lies-in}
 use Rattle.judgement.proofs.NotCutOff.{in-four, in-three, in-one, in-two}
 use borrow.Author.Needs.{needs}
 use Rattle.judgement.proofs.exceedance.acid_in.Statement.{statement}
 use Rattle.judgement.proofs.exceedance.acid_in.Tie as tie
+
+-- where the pair lies, once its region is told
+there : (c : tie.Start) {r : Region} → c .args .region ≡ r → let a = c .args in Lies (a .s) (a .n) (a .c) (a .m) (a .e) r
+there c told = let a = c .args in rw (sym (c .pre .own) ∙ told) at (lies-in (a .s) (a .n) (a .c) (a .m) (a .e))
 
 enum-told : tie.Need-enum-told
 enum-told c = search needs
@@ -13,43 +19,41 @@ enum-told-2 : tie.Need-enum-told-2
 enum-told-2 c = search needs
 
 sub-acid-no-sulphur : tie.Need-sub-acid-no-sulphur
-sub-acid-no-sulphur c = let a = c .before .before .args in in-one (a .s) (a .n) (a .c) (a .m) (a .e) (sym (c .before .before .pre .own) ∙ c .enum-told2 .given .1) .0
+sub-acid-no-sulphur c = in-one (there (c .before .before) (c .enum-told2 .given .1)) .0
 
 acid-no-sulphur-requires : tie.Need-acid-no-sulphur-requires
 acid-no-sulphur-requires c κs =
-    let a = c .before .before .args in
     let p = c .before .before .pre .pair in
-    (p .sulphur, p .positive, p .undenitrified, omega arith, in-one (a .s) (a .n) (a .c) (a .m) (a .e) (sym (c .before .before .pre .own) ∙ c .enum-told2 .given .1) .1)
+    (p .sulphur, p .e-least, p .e-most, omega arith, in-one (there (c .before .before) (c .enum-told2 .given .1)) .1)
 
 enum-told-3 : tie.Need-enum-told-3
 enum-told-3 c = search needs
 
 sub-acid-slope : tie.Need-sub-acid-slope
-sub-acid-slope c = let a = c .before .before .args in in-two (a .s) (a .n) (a .c) (a .m) (a .e) (sym (c .before .before .pre .own) ∙ c .enum-told3 .given .1) .0
+sub-acid-slope c = in-two (there (c .before .before) (c .enum-told3 .given .1)) .0
 
 acid-slope-requires : tie.Need-acid-slope-requires
 acid-slope-requires c κs =
-    let a = c .before .before .args in
     let p = c .before .before .pre .pair in
-    (p .sulphur, p .positive, p .undenitrified, omega arith, in-two (a .s) (a .n) (a .c) (a .m) (a .e) (sym (c .before .before .pre .own) ∙ c .enum-told3 .given .1) .1)
+    (p .sulphur, p .e-least, p .e-most, omega arith, in-two (there (c .before .before) (c .enum-told3 .given .1)) .1)
 
 enum-told-4 : tie.Need-enum-told-4
 enum-told-4 c = search needs
 
 sub-result : tie.Need-sub-result
-sub-result c = let a = c .before .before .args in in-three (a .s) (a .n) (a .c) (a .m) (a .e) (sym (c .before .before .pre .own) ∙ c .enum-told4 .given .1) .0
+sub-result c = in-three (there (c .before .before) (c .enum-told4 .given .1)) .0
 
 add-result : tie.Need-add-result
 add-result c = search needs
 
 sub-result-2 : tie.Need-sub-result-2
-sub-result-2 c = let a = c .before .before .args in in-three (a .s) (a .n) (a .c) (a .m) (a .e) (sym (c .before .before .pre .own) ∙ c .enum-told4 .given .1) .1
+sub-result-2 c = in-three (there (c .before .before) (c .enum-told4 .given .1)) .1
 
 enum-told-5 : tie.Need-enum-told-5
 enum-told-5 c = search needs
 
 sub-result-3 : tie.Need-sub-result-3
-sub-result-3 c = let a = c .before .before .args in in-four (a .s) (a .n) (a .c) (a .m) (a .e) (sym (c .before .before .pre .own) ∙ c .enum-told5 .given .1)
+sub-result-3 c = in-four (there (c .before .before) (c .enum-told5 .given .1))
 
 returns : tie.Need-returns
 unfolding acidIn

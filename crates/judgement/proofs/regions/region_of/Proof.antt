@@ -3,7 +3,7 @@ use mathlib.Core.Path.{sym}
 use native.Mathlib.Omega.{arith}
 use borrow.Author.Needs.{needs}
 use Rattle.judgement.specs.Regions.{D, excess}
-use Rattle.judgement.proofs.RegionLaws.{Sizes, sizes, none-left, closes-zero, is-four, is-three, is-one, is-two}
+use Rattle.judgement.proofs.RegionLaws.{Sizes, sizes, rest-zero, closes-zero, is-four, is-three, is-one, is-two}
 use Rattle.judgement.proofs.regions.region_of.Statement.{statement}
 use Rattle.judgement.proofs.regions.region_of.Tie as tie
 
@@ -14,7 +14,7 @@ at-entry c = sizes (c .args .m) (c .pre)
 returns : tie.Need-returns
 returns c =
     let a = c .before .before .args in
-    sym (closes-zero (a .s) (a .n) (a .c) (a .m) (a .e) (omega (arith, none-left (a .s) (a .n) (a .c) (a .m) (a .e) (c .before .if1 .taken))))
+    sym (closes-zero (a .s) (a .n) (a .c) (a .m) (a .e) (omega (arith, rest-zero (a .s) (a .n) (a .c) (a .m) (a .e) (c .before .if1 .taken))))
 
 returns-2 : tie.Need-returns-2
 returns-2 c =

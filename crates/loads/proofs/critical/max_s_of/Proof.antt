@@ -11,7 +11,7 @@ weathered : (c : tie.After-weathering-of) → c .weathering-of .result ≡ weath
 weathered c = c .weathering-of .ensures ∙ sym (weathering-is (c .before .args .s))
 
 available : (c : tie.After-available-of) → c .available-of .result ≡ availableWeathering (c .before .before .before .args .s)
-available c = cc (available-is (c .before .before .before .args .s), weathered (c .before .before), c .available-of .ensures .0, c .before .wide8 .ensures)
+available c = cc (available-is (c .before .before .before .args .s), weathered (c .before .before), c .available-of .ensures .0, c .before .wide8 .ensures .0)
 
 weathering-of-requires : tie.Need-weathering-of-requires
 weathering-of-requires c κs = search needs
@@ -23,7 +23,7 @@ available-of-requires : tie.Need-available-of-requires
 available-of-requires c κs =
     let s = c .before .before in (
       rw (weathered (c .before)) (part-bounds (s .args .s) (s .pre .0) .weathering-le),
-      rw (c .wide8 .ensures) (s .pre .0 .available),
+      rw (c .wide8 .ensures .0) (s .pre .0 .available),
     )
 
 wide16-requires : tie.Need-wide16-requires

@@ -11,7 +11,7 @@ use Rattle.loads.proofs.uptake.weighed.Tie as tie
 yielded-le : (c : tie.After-wide16) → (c .before .wide8 .result) * (c .wide16 .result) ≤ 2000000
 yielded-le c =
     let b = c .before .before .before .before .pre in
-    prod (shareRange .most) (mostYield) (rw (c .before .wide8 .ensures) (b .share)) (rw (c .wide16 .ensures .0) (b .yielded))
+    prod (shareRange .most) (mostYield) (rw (c .before .wide8 .ensures .0) (b .share)) (rw (c .wide16 .ensures .0) (b .yielded))
 
 nitrogen-fits : (c : tie.After-wide165) → let at = c .before .before .before .before in (at .before .wide8 .result) * (at .wide16 .result) * (c .wide165 .result) ≤ 2000000 * 65535
 nitrogen-fits c = prod 2000000 65535 (yielded-le (c .before .before .before .before)) (c .wide165 .ensures .1)
@@ -81,10 +81,10 @@ returns c =
     let at = c .before .before .before .before in
     let table = at .before .before in
     record {
-      nitrogen = rw (at .before .wide8 .ensures, at .wide16 .ensures .0, c .wide165 .ensures .0, table .contents-of .ensures, table .before .wide .ensures .0);
+      nitrogen = rw (at .before .wide8 .ensures .0, at .wide16 .ensures .0, c .wide165 .ensures .0, table .contents-of .ensures, table .before .wide .ensures .0);
       base =
           rw (
-            at .before .wide8 .ensures,
+            at .before .wide8 .ensures .0,
             at .wide16 .ensures .0,
             c .before .wide164 .ensures .0,
             c .before .before .wide163 .ensures .0,

@@ -32,7 +32,7 @@ returns c =
     let a = at .before .before .args in
     let q : textureOf (a .clay) (a .sand) - 1 ≡ at .texture-place .result =
     omega (arith, at .texture-place .ensures .0, at .before .texture-of .ensures) in
-    rw (c .wide8 .ensures, q)
+    rw (c .wide8 .ensures .0, q)
 
 pub class-of-spec : {M : Type 1} → statement M
 class-of-spec =

@@ -42,11 +42,11 @@ wide8-requires : tie.Need-wide8-requires
 wide8-requires c κs = search needs
 
 mul-result-2 : tie.Need-mul-result-2
-mul-result-2 c = omega (arith, prod 9750 255 {x = 500 * c .before .class-of .result - 250} {y = c .wide8 .result} (omega (arith, sized (c .before))) (omega arith))
+mul-result-2 c = omega (arith, prod 9750 255 {x = 500 * c .before .class-of .result - 250} (omega (arith, sized (c .before))) (c .wide8 .ensures .1))
 
 returns-2 : tie.Need-returns-2
 unfolding weatheringOf
-returns-2 c = simp (ne-eqb (c .before .before .before .before .args .parent) 0 (c .before .before .before .if1 .left)) (rw (class (c .before), c .wide8 .ensures))
+returns-2 c = simp (ne-eqb (c .before .before .before .before .args .parent) 0 (c .before .before .before .if1 .left)) (rw (class (c .before), c .wide8 .ensures .0))
 
 pub weathering-of-spec : {M : Type 1} → statement M
 weathering-of-spec =

@@ -1,5 +1,4 @@
 use borrow.Author.Needs.{needs}
-use Rattle.site.specs.Check.{fieldsRule}
 use Rattle.site.proofs.check.check_field.Statement.{statement}
 use Rattle.site.proofs.check.check_field.Tie as tie
 
@@ -16,10 +15,7 @@ both-requires-2 : tie.Need-both-requires-2
 both-requires-2 c κs = search needs
 
 returns : tie.Need-returns
-unfolding fieldsRule
-returns c =
-    let r = c .before .before in
-    λ ts e. rw (c .both2 .ensures, c .before .both .ensures, r .before .count-rule .ensures, r .value-rule .ensures, e)
+returns c = cc
 
 pub check-field-spec : {M : Type 1} → statement M
 check-field-spec =

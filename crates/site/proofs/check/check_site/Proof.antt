@@ -1,10 +1,9 @@
 -- The tags are three runs of five.
-use mathlib.Core.Path.{refl}
-use mathlib.Core.List.{[]}
-use lib.ListN.{drop}
+use mathlib.Core.Path.{_≡_}
 use borrow.Author.Needs.{needs}
 use Rattle.site.specs.Check.{fieldsRule, siteRule}
-use Rattle.site.specs.Values.{due}
+use Rattle.site.specs.Refusal.{andThen}
+use Rattle.site.proofs.FieldLaws.{then-assoc}
 use Rattle.site.proofs.NumberLaws.{numbered, known-site}
 use Rattle.site.proofs.check.check_site.Statement.{statement}
 use Rattle.site.proofs.check.check_site.Tie as tie
@@ -18,13 +17,12 @@ five-fields-requires-2 c κs = search needs
 five-fields-requires-3 : tie.Need-five-fields-requires-3
 five-fields-requires-3 c κs = search needs
 
+answer : (c : tie.After-five-fields3) → c .five-fields3 .result ≡ siteRule (c .before .before .before .args .site)
+unfolding fieldsRule siteRule andThen
+answer c = rw (c .five-fields3 .ensures, c .before .five-fields2 .ensures, c .before .before .five-fields .ensures) (simp then-assoc)
+
 returns : tie.Need-returns
-unfolding fieldsRule siteRule
-returns c =
-    let last = c .before .before .five-fields .ensures [] refl in
-    let middle = c .before .five-fields2 .ensures (drop 10 due) last in
-    let all = c .five-fields3 .ensures (drop 5 due) middle in
-    (all, numbered _ _ all (known-site _))
+returns c = let all = answer c in (all, numbered _ _ all (known-site _))
 
 pub check-site-spec : {M : Type 1} → statement M
 check-site-spec =

@@ -1,5 +1,8 @@
 -- Each field's answer is the one that the field before it takes.
 use borrow.Author.Needs.{needs}
+use Rattle.site.specs.Check.{fieldsRule}
+use Rattle.site.specs.Refusal.{andThen}
+use Rattle.site.proofs.FieldLaws.{then-assoc}
 use Rattle.site.proofs.check.five_fields.Statement.{statement}
 use Rattle.site.proofs.check.five_fields.Tie as tie
 
@@ -31,12 +34,13 @@ check-field-requires-5 : tie.Need-check-field-requires-5
 check-field-requires-5 c κs = search needs
 
 returns : tie.Need-returns
+unfolding fieldsRule andThen
 returns c =
     let c4 = c .before in
     let c3 = c4 .before in
     let c2 = c3 .before in
-    let c1 = c2 .before in
-    λ ts e. c .check-field5 .ensures _ (c4 .check-field4 .ensures _ (c3 .check-field3 .ensures _ (c2 .check-field2 .ensures _ (c1 .check-field .ensures ts e))))
+    rw (c .check-field5 .ensures, c4 .check-field4 .ensures, c3 .check-field3 .ensures, c2 .check-field2 .ensures, c2 .before .check-field .ensures)
+    (simp then-assoc)
 
 pub five-fields-spec : {M : Type 1} → statement M
 five-fields-spec =

@@ -5,6 +5,7 @@ use Prim.Native.Nat.{_*_, _-_, _≤_, _<_, min}
 use native.Mathlib.Omega.{arith}
 use lib.ListN.{length, take, drop}
 use borrow.Author.Needs.{needs}
+use Rattle.site.specs.Ranges.{shareRange}
 use Rattle.site.specs.Values.{standRule}
 use Rattle.site.proofs.BoundsLaw.{entry-bounds}
 use Rattle.site.proofs.StandLaws.{restRule, rest-start, rest-end, rest-next, rest-stop}
@@ -13,7 +14,7 @@ use Rattle.site.proofs.stand.stand_rule.Tie as tie
 
 abbrev Inv-loop : tie.InvT-loop
 Inv-loop n stand count seen₀ i₀ seen i =
-    (i ≤ 4) × (seen .shares ≤ 100 * i) × (standRule (take n stand) ≡ restRule seen (drop i (take n stand)))
+    (i ≤ 4) × (seen .shares ≤ shareRange .most * i) × (standRule (take n stand) ≡ restRule seen (drop i (take n stand)))
 
 abbrev μ-loop : tie.MeasureT-loop
 μ-loop n stand count seen₀ i₀ seen i = 4 - i

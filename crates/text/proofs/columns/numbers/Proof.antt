@@ -1,5 +1,6 @@
+use Rattle.loads.specs.CriticalLoads.{loadNumbers}
 use Rattle.judgement.specs.Verdicts.{verdictNumbers}
-use Rattle.text.specs.Line.{numbersOf, loadNumbers}
+use Rattle.text.specs.Line.{numbersOf}
 use borrow.Author.Needs.{needs}
 use Rattle.text.proofs.columns.numbers.Statement.{statement}
 use Rattle.text.proofs.columns.numbers.Tie as tie
