@@ -12,7 +12,7 @@ use Rattle.site.proofs.Tests.{le-or-lt, lt-or-le}
 use Rattle.judgement.specs.declared.Region.{Region}
 use Rattle.judgement.specs.declared.Region.the-variants.{AcidKept, NoSulphur, Slope, Corner, SulphurOnly}
 use Rattle.judgement.specs.JudgementConditions.{PairBounds}
-use Rattle.judgement.specs.Regions.{D, excess, regionNumber, regionOf, Kept, Lies, region-0, region-1, region-2, region-3, region-4}
+use Rattle.judgement.specs.Regions.{D, excess, regionNumber, regionOf, Region0, Lies, region-0, region-1, region-2, region-3, region-4}
 
 module _ (S N C m e : ℕ) where
   pub rest-zero : N ≤ m → e * (N - m) ≡ 0
@@ -98,14 +98,14 @@ module _ (S N C m e : ℕ) where
         (λ n v t k. absurd (omega arith)) (λ n v t k. refl)
 
   -- region 0's condition is that balance
-  kept-closes : Kept S N C m e → 1000 * S + e * (N - m) ≤ 1000 * C
+  kept-closes : Region0 S N C m e → 1000 * S + e * (N - m) ≤ 1000 * C
   kept-closes k = ⊎-elim (λ n. omega (arith, k .sulphur, rest-zero n)) (λ v. v) (k .nitrogen)
 
-  closes-kept : 1000 * S + e * (N - m) ≤ 1000 * C → Kept S N C m e
+  closes-kept : 1000 * S + e * (N - m) ≤ 1000 * C → Region0 S N C m e
   closes-kept v = record { sulphur = omega arith; nitrogen = inr v }
 
   -- and where it does not hold
-  pub not-kept : (Kept S N C m e → ⊥) → 1000 * C < 1000 * S + e * (N - m)
+  pub not-kept : (Region0 S N C m e → ⊥) → 1000 * C < 1000 * S + e * (N - m)
   not-kept out = ⊎-elim (λ v. absurd (out (closes-kept v))) (λ v. v) (le-or-lt (1000 * S + e * (N - m)) (1000 * C))
 
   -- every pair lies in exactly one region

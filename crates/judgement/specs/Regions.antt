@@ -34,17 +34,17 @@ regionOf S N C m e =
 
 -- The same as conditions, in the order of document 01: where a pair lies in a region, that one's own condition holds and no earlier region applies.
 -- Region 0: S ≤ CLmaxS, and n ≤ 0 or v ≤ 0.
-pub record Kept (S N C m e : ℕ) : Type 0 where
+pub record Region0 (S N C m e : ℕ) : Type 0 where
   pub sulphur : S ≤ C
   pub nitrogen : (N ≤ m) ⊎ (1000 * S + e * (N - m) ≤ 1000 * C)
 
 pub data Lies (S N C m e : ℕ) : Region → Type 0 where
-  region-0 : (own : Kept S N C m e) → Lies S N C m e AcidKept
-  region-4 : (not-0 : Kept S N C m e → ⊥) (own : N ≤ m) → Lies S N C m e SulphurOnly
-  region-3 : (not-0 : Kept S N C m e → ⊥) (not-4 : m < N) (own : (N - m) * D e < e * excess S C e (N - m)) → Lies S N C m e Corner
-  region-1 : (not-0 : Kept S N C m e → ⊥) (not-4 : m < N) (not-3 : e * excess S C e (N - m) ≤ (N - m) * D e)
+  region-0 : (own : Region0 S N C m e) → Lies S N C m e AcidKept
+  region-4 : (not-0 : Region0 S N C m e → ⊥) (own : N ≤ m) → Lies S N C m e SulphurOnly
+  region-3 : (not-0 : Region0 S N C m e → ⊥) (not-4 : m < N) (own : (N - m) * D e < e * excess S C e (N - m)) → Lies S N C m e Corner
+  region-1 : (not-0 : Region0 S N C m e → ⊥) (not-4 : m < N) (not-3 : e * excess S C e (N - m) ≤ (N - m) * D e)
       (own : S * D e < 1000 * excess S C e (N - m)) → Lies S N C m e NoSulphur
-  region-2 : (not-0 : Kept S N C m e → ⊥) (not-4 : m < N) (not-3 : e * excess S C e (N - m) ≤ (N - m) * D e)
+  region-2 : (not-0 : Region0 S N C m e → ⊥) (not-4 : m < N) (not-3 : e * excess S C e (N - m) ≤ (N - m) * D e)
       (not-1 : 1000 * excess S C e (N - m) ≤ S * D e) → Lies S N C m e Slope
 
 -- the acid exceedance in each region

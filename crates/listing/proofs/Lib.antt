@@ -1,4 +1,5 @@
 pub mod MapLaws
+pub mod RowLaws
 pub mod StepLaws
 pub mod LoopLaws
 pub mod Demand3Laws

@@ -63,8 +63,8 @@ module _ {A : Type 0} where
   pub and-stored : {d e : List A} {at r : ℕ} {xs : List A} → Wrote d at xs e r → (i : ℕ) (x : A) → i ≡ r → Wrote d at (xs ++ x ∷ []) (set e i x) (i + 1)
   and-stored {d} {e} {at} {r} {xs} w i x q = rw q (then w (stored e r x))
 
-  pub ending : {d e : List A} {at r : ℕ} {xs : List A} → Wrote d at xs e r → (s : ℕ) → s ≡ r → Wrote d at xs e s
-  ending w s q = rw q w
+  pub ends-at : {d e : List A} {at r : ℕ} {xs : List A} → Wrote d at xs e r → (s : ℕ) → s ≡ r → Wrote d at xs e s
+  ends-at w s q = rw q w
 
   pub kept : {d e : List A} {at r : ℕ} {xs : List A} → Wrote d at xs e r → length e ≡ length d
   kept {d} {e} {at} {r} {xs} w = rw (w .text, length-write)

@@ -1,14 +1,11 @@
 -- What is printed: nothing, or a report that fits its buffer.
-use Prim.Native.Nat.{ℕ, _≤_, _<_, min}
+use Prim.Native.Nat.{ℕ, _≤_, min}
 use mathlib.Core.Path.{_≡_, refl, sym, ap, _∙_}
-use mathlib.Core.Bool.{Bool, true, false}
 use mathlib.Core.List.{List, [], _++_}
 use native.Mathlib.Omega.{arith}
-use borrow.Author.Tests.{leb-true, leb-false}
-use lib.Dec.{leb}
 use lib.ListN.{length, take, drop}
-use lib.Seq.{take-all}
 use Rattle.record.specs.File.{mostFile}
+use Rattle.site.proofs.PartLaws.{take-min}
 use Rattle.site.specs.declared.Checked.{Checked}
 use Rattle.site.specs.declared.Checked.the-variants.{Passed, Broken}
 use Rattle.output.specs.Output.{roomRule, heldAfter, outputCount, held}
@@ -60,15 +57,6 @@ shown-whole text d e k n h t = go (roomRule (length text) (length d)) refl
         let nil : [] ≡ text = rw z at t in
         absurd (omega (arith, room-missing (length text) (length d) b, ap length nil))
 
-same-part : (n m : ℕ) (b : List ℕ) → m ≡ min n (length b) → take m b ≡ take n b
-same-part n m b h = go (leb n (length b)) refl
-  where
-    go : (t : Bool) → leb n (length b) ≡ t → take m b ≡ take n b
-    go true t = let e : m ≡ n = omega (arith, leb-true n (length b) t) in rw e
-    go false t =
-        let l : length b < n = leb-false n (length b) t in
-        take-all m b (omega arith) ∙ sym (take-all n b (omega arith))
-
 module _ (b d e : List ℕ) (r : ReadState) (n m k : ℕ) (is : r ≡ Ended n) (part : m ≡ min n (length b)) (size : mostFile ≤ length b)
     (inside : (k ≤ length e) × (k ≡ length (take k e)))
     (answer : k ≡ shownLength (reportOf (take m b)) d)
@@ -76,14 +64,14 @@ module _ (b d e : List ℕ) (r : ReadState) (n m k : ℕ) (is : r ≡ Ended n) (
     (all : take k e ≡ reportOf (take m b)) where
   out-is : reportOf (take m b) ≡ outputOf r b
   unfolding outputOf
-  out-is = rw (is, same-part n m b part)
+  out-is = rw (is, take-min b n m part)
 
   -- bytes that the buffer does not take change nothing
   for-the-file : (f : List ℕ) → ReadFrom f b r → take k e ≡ reportOf f
   for-the-file f x =
       let same : x .count ≡ n = cc in
       let first : take n b ≡ take (length b) f = rw same at (x .bytes) in
-      all ∙ ap reportOf (same-part n m b part ∙ first) ∙ report-take f (length b) size
+      all ∙ ap reportOf (take-min b n m part ∙ first) ∙ report-take f (length b) size
 
   pub after-the-end : Prints b d e r k
   after-the-end =

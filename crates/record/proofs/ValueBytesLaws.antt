@@ -1,15 +1,11 @@
 -- What the writer makes of a site's arrays, the name and the stand, and of a tag that has no value.
-use mathlib.Core.Path.{_≡_, refl, sym, _∙_}
-use mathlib.Core.Bool.{Bool, true, false}
+use mathlib.Core.Path.{_≡_}
 use mathlib.Core.List.{List, [], _++_}
 use mathlib.Core.Logic.{⊎-elim}
 use Prim.Native.Nat.{ℕ, _*_, _≤_, _<_}
 use native.Mathlib.Omega.{arith}
 use lib.ListN.{length, getD, take, replicate, List·getD-eq-default}
-use lib.Dec.{leb}
-use lib.Seq.{take-append-le, take-all}
-use borrow.Author.Tests.{leb-true, leb-false}
-use Rattle.site.specs.Choice.{pick}
+use lib.Seq.{take-append-le}
 use Rattle.site.specs.declared.Site.{Site}
 use Rattle.site.specs.declared.Entry.{Entry}
 use Rattle.site.specs.Bounds.{noEntry}
@@ -18,17 +14,6 @@ use Rattle.site.specs.Bytes.{tabulate}
 use Rattle.field.specs.Field.{values, value, entriesBytes}
 use Rattle.field.proofs.TabulateLaws.{tabulate-getD}
 use Rattle.field.proofs.EntryLaws.{entries-take}
-
--- n elements of an array, or all that it has
-pub capped : {A : Type 0} (l : List A) (n most : ℕ) → length l ≡ most
-    → (pick (leb n most) n most ≤ most) × (take (pick (leb n most) n most) l ≡ take n l)
-capped l n most e = go (leb n most) refl
-  where
-    go : (b : Bool) → leb n most ≡ b → (pick b n most ≤ most) × (take (pick b n most) l ≡ take n l)
-    go true q = (leb-true n most q, refl)
-    go false q =
-        let h : most < n = leb-false n most q in
-        (omega arith, take-all most l (omega arith) ∙ sym (take-all n l (omega arith)))
 
 unfoldable pub nameBytes : List ℕ → List ℕ
 nameBytes l = tabulate 8 (λ i. getD l i 0) ++ replicate 8 0

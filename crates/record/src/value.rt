@@ -1,9 +1,8 @@
 // The bytes of a site's value with a given tag.
 ghost use mathlib.Core.List.{[], _∷_, _++_};
 ghost use mathlib.Core.Path.{_≡_};
-ghost use lib.Dec.{leb};
+ghost use Prim.Native.Nat.{_≤_, min};
 ghost use lib.ListN.{take};
-ghost use Rattle.site.specs.Choice.{pick};
 ghost use Rattle.field.specs.Field.{value, wordBytes, entriesBytes};
 ghost use Rattle.record.specs.ValueBytes.{Holds};
 use crate::halves::hi;
@@ -20,7 +19,7 @@ pub struct ValueBytes {
 
 // n, but no more than there are.
 fn at_most(n: u8, most: usize) -> usize
-    ensures { λ r. ⌜ r ≡ pick (leb n most) n most ⌝ }
+    ensures { λ r. ⌜ (r ≡ min n most) × (r ≤ most) ⌝ }
 {
     let k = wide(n);
     if k <= most {

@@ -19,7 +19,7 @@ use Rattle.site.specs.Ranges.{parentRange, depthRange, drainageRange, pe
 use Rattle.site.specs.Values.{due, countRule, itemCount, valueRule, standRule, entryRanged, allOf, inside}
 use Rattle.site.proofs.Tests.{le-or-lt, and-l, and-r}
 use Rattle.site.proofs.Passing.{pass-then, inside-both, between-passed}
-use Rattle.site.proofs.PartLaws.{all-at}
+use Rattle.site.proofs.PartLaws.{test-at}
 use Rattle.site.proofs.LengthLaws.{count-parts}
 use Rattle.site.proofs.FieldLaws.{site-passed}
 
@@ -45,7 +45,7 @@ each-bounds es n p i h =
     (λ (past : length es ≤ i). rw (List·getD-eq-default es noEntry {n = i} past) no-entry-bounds)
     (λ (within : i < length es).
     let l : i < length (take n es) = simp length-take (omega arith) in
-    rw getD-take at (entry-bounds (getD (take n es) i noEntry) (all-at entryRanged (take n es) i noEntry l p)))
+    rw getD-take at (entry-bounds (getD (take n es) i noEntry) (test-at entryRanged (take n es) i noEntry l p)))
     (le-or-lt (length es) i)
 
 stand-bounds : (s : Site) → countRule 7 s ≡ Passed → valueRule 7 s ≡ Passed → StandBounds (s .stand) (s .entries)

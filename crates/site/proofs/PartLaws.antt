@@ -1,14 +1,15 @@
--- Laws of loops over the first n elements of a list.
-use mathlib.Core.Path.{_≡_}
+-- Laws of the first n elements of a list, and of loops over them.
+use mathlib.Core.Path.{_≡_, sym, _∙_}
+use mathlib.Core.Logic.{⊎-elim}
 use mathlib.Core.Bool.{Bool, true, false}
 use mathlib.Core.List.{List, [], _∷_}
 use Prim.Native.Nat.{ℕ, zero, suc, _+_, _≤_, _<_, min}
 use native.Mathlib.Omega.{arith}
 use native.Mathlib.Numerals.{add-one}
 use lib.ListN.{length, getD, take, drop, length-take, drop-of-length-le}
-use lib.Seq.{drop-cons, getD-take}
+use lib.Seq.{drop-cons, getD-take, take-all}
 use Rattle.site.specs.Values.{allOf}
-use Rattle.site.proofs.Tests.{and-l, and-r}
+use Rattle.site.proofs.Tests.{le-or-lt, and-l, and-r}
 
 module _ {ℓ} {A : Type ℓ} where
   -- what is left of the first n elements of l, from element i on
@@ -30,11 +31,19 @@ module _ {ℓ} {A : Type ℓ} where
     unfolding allOf
     all-stop f e = rw (part-cons, e)
 
-  pub all-at : (f : A → Bool) (l : List A) (i : ℕ) (d : A) → i < length l → allOf f l ≡ true → f (getD l i d) ≡ true
+  -- n elements, or all that there are
+  pub take-min : (l : List A) (n k : ℕ) → k ≡ min n (length l) → take k l ≡ take n l
+  take-min l n k e =
+      ⊎-elim
+      (λ (h : n ≤ length l). let s : k ≡ n = omega arith in rw s)
+      (λ (h : length l < n). take-all k l (omega arith) ∙ sym (take-all n l (omega arith)))
+      (le-or-lt n (length l))
+
+  pub test-at : (f : A → Bool) (l : List A) (i : ℕ) (d : A) → i < length l → allOf f l ≡ true → f (getD l i d) ≡ true
   unfolding allOf
-  all-at f [] i d h e = absurd (omega arith)
-  all-at f (x ∷ l) zero d h e = and-l (f x) (allOf f l) e
-  all-at f (x ∷ l) (suc i) d h e = all-at f l i d (omega arith) (and-r (f x) (allOf f l) e)
+  test-at f [] i d h e = absurd (omega arith)
+  test-at f (x ∷ l) zero d h e = and-l (f x) (allOf f l) e
+  test-at f (x ∷ l) (suc i) d h e = test-at f l i d (omega arith) (and-r (f x) (allOf f l) e)
 
   -- a default that passes too spares the index's bound
   pub all-getD : (f : A → Bool) (l : List A) (i : ℕ) (d : A) → f d ≡ true → allOf f l ≡ true → f (getD l i d) ≡ true

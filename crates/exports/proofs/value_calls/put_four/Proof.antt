@@ -4,7 +4,7 @@ use native.Mathlib.Omega.{arith}
 use mathlib.Core.Path.{_≡_}
 use mathlib.Core.List.{List, [], _∷_}
 use lib.ListN.{length, getD, length-set}
-use Rattle.output.proofs.WritingLaws.{stored, and-stored, ending}
+use Rattle.output.proofs.WritingLaws.{stored, and-stored, ends-at}
 use Rattle.site.specs.Bytes.{tabulate}
 use Rattle.field.proofs.TabulateLaws.{tabulate-getD}
 use borrow.Author.Needs.{needs}
@@ -68,7 +68,7 @@ returns : tie.Need-returns
 returns c =
     let a = c .args in
     let e : length (a .t3) ≡ 4 = search needs in
-    rw (← elements (a .t3) e) (ending (and-stored (and-stored (and-stored (stored _ _ _) _ _ (omega arith)) _ _ (omega arith)) _ _ (omega arith)) _ (omega arith))
+    rw (← elements (a .t3) e) (ends-at (and-stored (and-stored (and-stored (stored _ _ _) _ _ (omega arith)) _ _ (omega arith)) _ _ (omega arith)) _ (omega arith))
 
 pub put-four-spec : {M : Type 1} → statement M
 put-four-spec =

@@ -1,7 +1,7 @@
 use native.Mathlib.Omega.{arith}
 use lib.ListN.{length-set}
 use borrow.Author.Needs.{needs}
-use Rattle.output.proofs.WritingLaws.{stored, and-stored, ending}
+use Rattle.output.proofs.WritingLaws.{stored, and-stored, ends-at}
 use Rattle.record.proofs.put.put_head.Statement.{statement}
 use Rattle.record.proofs.put.put_head.Tie as tie
 
@@ -33,7 +33,7 @@ same-length : tie.Need-same-length
 same-length c = search needs
 
 returns : tie.Need-returns
-returns c = ending (and-stored (and-stored (stored _ _ _) _ _ (omega arith)) _ _ (omega arith)) _ (omega arith)
+returns c = ends-at (and-stored (and-stored (stored _ _ _) _ _ (omega arith)) _ _ (omega arith)) _ (omega arith)
 
 pub put-head-spec : {M : Type 1} → statement M
 put-head-spec =

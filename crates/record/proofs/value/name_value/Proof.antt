@@ -1,11 +1,11 @@
-use Prim.Native.Nat.{_≤_}
 use mathlib.Core.Path.{_≡_, sym, ap, _∙_}
 use native.Mathlib.Omega.{arith}
 use lib.ListN.{length, take}
 use lib.Seq.{length-take-le}
 use borrow.Author.Needs.{needs}
 use Rattle.site.specs.Bytes.{tabulate}
-use Rattle.record.proofs.ValueBytesLaws.{nameBytes, name-value, capped}
+use Rattle.record.proofs.ValueBytesLaws.{nameBytes, name-value}
+use Rattle.site.proofs.PartLaws.{take-min}
 use Rattle.record.proofs.value.name_value.Statement.{statement}
 use Rattle.record.proofs.value.name_value.Tie as tie
 
@@ -41,12 +41,10 @@ unfolding nameBytes tabulate
 returns c =
     let a = c .before .args in
     let z : length (a .name) ≡ 8 = search needs in
-    let k = capped (a .name) (a .n) 8 z in
     let r = c .at-most .result in
-    let h : r ≤ 8 = rw (c .at-most .ensures) (k .0) in
-    let e : take r (a .name) ≡ take (a .n) (a .name) = rw (c .at-most .ensures) (k .1) in
+    let e : take r (a .name) ≡ take (a .n) (a .name) = take-min (a .name) (a .n) r (omega (arith, c .at-most .ensures .0)) in
     record {
-      first = name-value (a .name) r z h ∙ e;
+      first = name-value (a .name) r z (c .at-most .ensures .1) ∙ e;
       long = sym (length-take-le r (a .name) (omega arith)) ∙ ap length e;
       small = omega arith;
     }

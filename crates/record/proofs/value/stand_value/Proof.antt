@@ -9,7 +9,8 @@ use Rattle.site.specs.declared.Entry.{Entry}
 use borrow.Author.Needs.{needs}
 use Rattle.site.specs.Bytes.{tabulate}
 use Rattle.field.specs.Field.{entriesBytes}
-use Rattle.record.proofs.ValueBytesLaws.{stand-value, capped}
+use Rattle.record.proofs.ValueBytesLaws.{stand-value}
+use Rattle.site.proofs.PartLaws.{take-min}
 use Rattle.field.proofs.EntryLaws.{length-entries}
 use Rattle.record.proofs.value.stand_value.Statement.{statement}
 use Rattle.record.proofs.value.stand_value.Tie as tie
@@ -37,7 +38,7 @@ few : (c : tie.After-at-most) → let a = c .before .before .before .before .bef
     (c .at-most .result ≤ 4) × (take (c .at-most .result) (a .t1) ≡ take (a .n) (a .t1))
 few c =
     let s = c .before .before .before .before .before in
-    rw (c .at-most .ensures) (capped (s .args .t1) (s .args .n) 4 (stand-len s))
+    (c .at-most .ensures .1, take-min (s .args .t1) (s .args .n) (c .at-most .result) (omega (arith, c .at-most .ensures .0, stand-len s)))
 
 mul-len : tie.Need-mul-len
 mul-len c = omega (arith, few c .0)

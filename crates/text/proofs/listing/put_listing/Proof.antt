@@ -1,5 +1,5 @@
 -- The header and the lines are put one after another, and their lengths add up to what was asked of the buffer.
-use Prim.Native.Nat.{ℕ, _≤_}
+use Prim.Native.Nat.{_≤_, min}
 use mathlib.Core.Path.{_≡_, sym, ap, _∙_}
 use mathlib.Core.Logic.{⊎-elim}
 use native.Mathlib.Omega.{arith}
@@ -7,7 +7,7 @@ use denote.Ref.{now}
 use lib.ListN.{length, take}
 use mathlib.Core.List.{List}
 use Rattle.text.specs.declared.Row.{Row}
-use lib.Seq.{take-all}
+use Rattle.site.proofs.PartLaws.{take-min}
 use Rattle.output.specs.Writing.{Wrote, each}
 use Rattle.text.specs.Line.{line}
 use Rattle.text.specs.Listing.{headText, header, listing}
@@ -22,10 +22,10 @@ use Rattle.text.proofs.listing.put_listing.Tie as tie
 -- the count that is used
 used : (c : tie.Joined1) → (c .if1 .n ≤ 500) × (take (c .if1 .n) (c .before .before .args .rows) ≡ take (c .before .before .args .count) (c .before .before .args .rows))
 used c =
-    let rows = c .before .before .args .rows in
-    let n : length rows ≡ 500 = search needs in
-    ⊎-elim (λ w. (omega arith, take-all (c .if1 .n) rows (omega arith) ∙ sym (take-all (c .before .before .args .count) rows (omega arith))))
-    (λ w. (omega arith, ap (λ (k : ℕ). take k rows) (w .1))) (c .if1 .came)
+    let a = c .before .before .args in
+    let n : length (a .rows) ≡ 500 = search needs in
+    let least : c .if1 .n ≡ min (a .count) 500 = ⊎-elim (λ w. omega arith) (λ w. omega arith) (c .if1 .came) in
+    (omega arith, take-min (a .rows) (a .count) (c .if1 .n) (omega arith))
 
 lines-len-requires : tie.Need-lines-len-requires
 lines-len-requires c κs = used c .0
