@@ -17,12 +17,12 @@ five-fields-requires-2 c κs = search needs
 five-fields-requires-3 : tie.Need-five-fields-requires-3
 five-fields-requires-3 c κs = search needs
 
-answer : (c : tie.After-five-fields3) → c .five-fields3 .result ≡ siteRule (c .before .before .before .args .site)
-unfolding fieldsRule siteRule andThen
-answer c = rw (c .five-fields3 .ensures, c .before .five-fields2 .ensures, c .before .before .five-fields .ensures) (simp then-assoc)
-
 returns : tie.Need-returns
-returns c = let all = answer c in (all, numbered _ _ all (known-site _))
+unfolding fieldsRule siteRule andThen
+returns c =
+    let all : c .five-fields3 .result ≡ siteRule (c .before .before .before .args .site) =
+    rw (c .five-fields3 .ensures, c .before .five-fields2 .ensures, c .before .before .five-fields .ensures) (simp then-assoc) in
+    (all, numbered _ _ all (known-site _))
 
 pub check-site-spec : {M : Type 1} → statement M
 check-site-spec =
