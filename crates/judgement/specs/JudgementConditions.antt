@@ -14,6 +14,13 @@ pub record PairBounds (S N C e : ℕ) : Type 0 where
   pub e-least : 1 ≤ e
   pub e-most : e ≤ 1000
 
+-- S, what CLminN leaves of N, and e
+pub record LeftBounds (S left e : ℕ) : Type 0 where
+  pub sulphur : S ≤ depositionRange .most
+  pub nitrogen : left ≤ depositionRange .most
+  pub e-least : 1 ≤ e
+  pub e-most : e ≤ 1000
+
 -- a region that is the pair's own
 pub record Own (region : Region) (S N C m e : ℕ) : Type 0 where
   pub pair : PairBounds S N C e

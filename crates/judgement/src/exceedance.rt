@@ -1,9 +1,8 @@
 // The exceedances of a pair, on plain numbers.
 ghost use mathlib.Core.Path.{_≡_};
 ghost use Prim.Native.Nat.{_+_, _*_, _-_, _≤_, _<_};
-ghost use Rattle.site.specs.Ranges.{depositionRange};
 ghost use Rattle.loads.specs.Rounding.{up};
-ghost use Rattle.judgement.specs.JudgementConditions.{Own};
+ghost use Rattle.judgement.specs.JudgementConditions.{LeftBounds, Own};
 ghost use Rattle.judgement.specs.Regions.{D, excess, acidIn};
 use crate::Region;
 
@@ -17,7 +16,7 @@ fn up_by(x: u64, d: u64) -> u64
 
 // Region 1: left is N − CLminN.
 fn acid_no_sulphur(s: u64, left: u64, c: u64, e: u64) -> u64
-    requires { ⌜ (s ≤ depositionRange .most) × (0 < e) × (e ≤ 1000) × (left ≤ depositionRange .most) × (1000 * c ≤ e * left) ⌝ }
+    requires { ⌜ LeftBounds s left e × (1000 * c ≤ e * left) ⌝ }
     ensures { λ r. ⌜ r ≡ s + up (e * left - 1000 * c) e ⌝ }
 {
     s + up_by(e * left - 1000 * c, e)
@@ -25,7 +24,7 @@ fn acid_no_sulphur(s: u64, left: u64, c: u64, e: u64) -> u64
 
 // Region 2.
 fn acid_slope(s: u64, left: u64, c: u64, e: u64) -> u64
-    requires { ⌜ (s ≤ depositionRange .most) × (0 < e) × (e ≤ 1000) × (left ≤ depositionRange .most) × (1000 * c ≤ 1000 * s + e * left) ⌝ }
+    requires { ⌜ LeftBounds s left e × (1000 * c ≤ 1000 * s + e * left) ⌝ }
     ensures { λ r. ⌜ r ≡ up ((1000 + e) * excess s c e left) (D e) ⌝ }
 {
     up_by(

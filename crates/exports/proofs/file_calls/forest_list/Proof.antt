@@ -18,7 +18,8 @@ returns : tie.Need-returns
 returns c =
     let l = c .before .before .before .list in
     let e = l .ensures in
-    let t = list-decoded _ _ _ _ _ (e .0) (c .written-code .ensures) (e .1 .1 .1 .1) (e .1 .1 .1 .0) in
+    let last = e .1 .1 .1 in  -- enough, demand3
+    let t = list-decoded _ _ _ _ _ (e .0) (c .written-code .ensures) (last .1) (last .0) in
     (c .written-code .ensures ∙ ap writtenCode (e .0), (e .1 .0, (t .0, t .1)))
 
 pub forest-list-spec : {M : Type 1} → statement M

@@ -19,7 +19,8 @@ returns : tie.Need-returns
 returns c =
     let e = c .before .before .before .report .ensures in
     let s = c .before .before .before .before .before .before .before in
-    let t = report-decoded _ (now (s .args .out)) _ _ _ (e .0) (c .written-code .ensures) (e .1 .1 .1 .1) (e .1 .1 .1 .0) in
+    let last = e .1 .1 .1 in  -- enough, demand3
+    let t = report-decoded _ (now (s .args .out)) _ _ _ (e .0) (c .written-code .ensures) (last .1) (last .0) in
     (c .written-code .ensures ∙ ap writtenCode (e .0), (e .1 .0, (t .0, t .1)))
 
 pub forest-report-spec : {M : Type 1} → statement M

@@ -1,6 +1,8 @@
 use mathlib.Core.Path.{_≡_, sym, _∙_}
 use native.Mathlib.Omega.{arith}
 use Rattle.judgement.specs.declared.Region.{Region}
+use Prim.Native.Nat.{_-_}
+use Rattle.judgement.specs.JudgementConditions.{LeftBounds}
 use Rattle.judgement.specs.Regions.{acidIn, Lies}
 use Rattle.judgement.proofs.RegionLaws.{lies-in}
 use Rattle.judgement.proofs.NotCutOff.{in-four, in-three, in-one, in-two}
@@ -11,6 +13,10 @@ use Rattle.judgement.proofs.exceedance.acid_in.Tie as tie
 -- where the pair lies, once its region is told
 there : (c : tie.Start) {r : Region} → c .args .region ≡ r → let a = c .args in Lies (a .s) (a .n) (a .c) (a .m) (a .e) r
 there c told = let a = c .args in rw (sym (c .pre .own) ∙ told) at (lies-in (a .s) (a .n) (a .c) (a .m) (a .e))
+
+-- what is left of N is no more than N
+left-bounds : (c : tie.Start) → let a = c .args in LeftBounds (a .s) (a .n - a .m) (a .e)
+left-bounds c = let p = c .pre .pair in record { sulphur = p .sulphur; nitrogen = omega arith; e-least = p .e-least; e-most = p .e-most }
 
 enum-told : tie.Need-enum-told
 enum-told c = search needs
@@ -23,8 +29,7 @@ sub-acid-no-sulphur c = in-one (there (c .before .before) (c .enum-told2 .given 
 
 acid-no-sulphur-requires : tie.Need-acid-no-sulphur-requires
 acid-no-sulphur-requires c κs =
-    let p = c .before .before .pre .pair in
-    (p .sulphur, p .e-least, p .e-most, omega arith, in-one (there (c .before .before) (c .enum-told2 .given .1)) .1)
+    (left-bounds (c .before .before), in-one (there (c .before .before) (c .enum-told2 .given .1)) .1)
 
 enum-told-3 : tie.Need-enum-told-3
 enum-told-3 c = search needs
@@ -34,8 +39,7 @@ sub-acid-slope c = in-two (there (c .before .before) (c .enum-told3 .given .1)) 
 
 acid-slope-requires : tie.Need-acid-slope-requires
 acid-slope-requires c κs =
-    let p = c .before .before .pre .pair in
-    (p .sulphur, p .e-least, p .e-most, omega arith, in-two (there (c .before .before) (c .enum-told3 .given .1)) .1)
+    (left-bounds (c .before .before), in-two (there (c .before .before) (c .enum-told3 .given .1)) .1)
 
 enum-told-4 : tie.Need-enum-told-4
 enum-told-4 c = search needs

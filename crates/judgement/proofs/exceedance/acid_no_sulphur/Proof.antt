@@ -5,16 +5,16 @@ use Rattle.judgement.proofs.exceedance.acid_no_sulphur.Statement.{state
 use Rattle.judgement.proofs.exceedance.acid_no_sulphur.Tie as tie
 
 mul-up-by : tie.Need-mul-up-by
-mul-up-by c = omega (arith, mul-le-mul (c .pre .2) (c .pre .3))
+mul-up-by c = omega (arith, mul-le-mul (c .pre .0 .e-most) (c .pre .0 .nitrogen))
 
 mul-up-by-2 : tie.Need-mul-up-by-2
-mul-up-by-2 c = omega (arith, mul-le-mul (c .pre .2) (c .pre .3))
+mul-up-by-2 c = omega (arith, mul-le-mul (c .pre .0 .e-most) (c .pre .0 .nitrogen))
 
 sub-up-by : tie.Need-sub-up-by
 sub-up-by c = search needs
 
 up-by-requires : tie.Need-up-by-requires
-up-by-requires c κs = (c .pre .1, omega (arith, mul-le-mul (c .pre .2) (c .pre .3)))
+up-by-requires c κs = (c .pre .0 .e-least, omega (arith, mul-le-mul (c .pre .0 .e-most) (c .pre .0 .nitrogen)))
 
 add-result : tie.Need-add-result
 add-result c = search needs

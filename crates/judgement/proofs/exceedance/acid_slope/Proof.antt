@@ -2,6 +2,7 @@ use Prim.Native.Nat.{_+_, _*_, _-_, _≤_}
 use native.Mathlib.Omega.{arith}
 use native.Mathlib.Nat.{mul-le-mul}
 use Rattle.judgement.specs.Regions.{D, excess}
+use Rattle.site.specs.Ranges.{depositionRange}
 use Rattle.loads.proofs.Numbers.{prod}
 use borrow.Author.Needs.{needs}
 use Rattle.judgement.proofs.exceedance.acid_slope.Statement.{statement}
@@ -9,10 +10,12 @@ use Rattle.judgement.proofs.exceedance.acid_slope.Tie as tie
 
 sizes :
     (c : tie.Start) → let a = c .args in
-    (a .e * a .left ≤ 65535000) × (a .e * a .e ≤ 1000000) × ((1000 + a .e) * (1000 * a .s + a .e * a .left - 1000 * a .c) ≤ 262140000000)
+    (a .e * a .left ≤ 1000 * depositionRange .most) × (a .e * a .e ≤ 1000 * 1000)
+    × ((1000 + a .e) * (1000 * a .s + a .e * a .left - 1000 * a .c) ≤ 2000 * (2000 * depositionRange .most))
 sizes c =
-    let el = mul-le-mul (c .pre .2) (c .pre .3) in
-    (el, mul-le-mul (c .pre .2) (c .pre .2), prod 2000 131070000 (omega arith) (omega arith))
+    let p = c .pre .0 in
+    let el = mul-le-mul (p .e-most) (p .nitrogen) in
+    (el, mul-le-mul (p .e-most) (p .e-most), prod 2000 (2000 * depositionRange .most) (omega arith) (omega arith))
 
 add-up-by : tie.Need-add-up-by
 add-up-by c = search needs
