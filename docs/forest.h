@@ -19,10 +19,13 @@
  *   11  lent buffer shorter than the output                                            0
  *
  * Offsets count bytes from the start of the file or record; of a site value each is 0. The first fault from the left is
- * given, and 11 only where there is no other. A field is a tag, a length of two bytes, a value; a record is an outer field
- * whose value is the fields 01 to 0F (hexadecimal), each once, rising; a file is 1 to 500 records.
+ * given, and 11 only where there is no other.
  *
- * A site value is 50 bytes, numbers of two bytes high byte first; `count`, `length`, ranges and units are those of a record:
+ * A field is a tag of one byte, a length of two bytes, high byte first, and a value. A record is an outer field whose value
+ * is the fields 01 to 0F (hexadecimal), each once, rising; a file is 1 to 500 records. README.md, "A file of records", has
+ * the values with their codes, units and ranges.
+ *
+ * A site value is the same values in 50 bytes, numbers of two bytes high byte first:
  *
  *    0  name, 8 bytes            8  length of the name       9  parent material
  *   10  clay                    11  sand                    12  root depth
@@ -77,7 +80,7 @@ uint64_t forest_loads(const uint8_t *site, size_t site_len, uint64_t *out, size_
  * Stack: 1 KiB. */
 uint64_t forest_judge(const uint8_t *site, size_t site_len, uint64_t *out, size_t out_len);
 
-/* The greatest length of a listing or a report, and of a record that is accepted. */
+/* No listing and no report is longer than the first, and no accepted record than the second. */
 #define FOREST_MOST_TEXT 81551
 #define FOREST_MOST_RECORD 258
 

@@ -29,7 +29,7 @@ use Rattle.output.proofs.WritingLaws.{in-front}
 use Rattle.output.proofs.OutputLaws.{output-broken, output-short, output-whole, output-passed}
 use Rattle.exports.specs.Codes.{codeBase, writtenCode, Decodes}
 use Rattle.exports.proofs.CodeLaws.{count-below, by-check-decodes}
-use Rattle.exports.specs.Layout.{siteIn, valueCheck, valueAnswer, loadsNumbers, markNumber, verdictMarked, judgementNumbers}
+use Rattle.exports.specs.Layout.{siteIn, valueCheck, valueAnswer, siteLoadNumbers, markNumber, verdictMarked, judgementNumbers}
 
 module _ (b : List ℕ) where
   pub wrong-length : (length b ≡ 50 → ⊥) → valueCheck b ≡ Broken BadLength
@@ -77,7 +77,7 @@ length-marked Within = refl
 length-marked (Over r x y) = refl
 
 pub length-judged : (s : Site) → length (judgementNumbers s) ≡ 8
-unfolding judgementNumbers loadsNumbers loadNumbers
+unfolding judgementNumbers siteLoadNumbers loadNumbers
 length-judged s = omega (arith, length-marked (verdict (termsOf s) (s .sulphur) (s .nitrogen)))
 
 -- ---- demand 3 of the mark
@@ -105,7 +105,7 @@ module _ (b old new : List ℕ) where
       new ≡ heldAfter (outputRule (valueCheck b) 8 (length old)) (judgementNumbers (siteIn b)) old
       → valueCheck b ≡ Passed → 8 ≤ length old
       → getD new 7 0 ≡ markNumber (verdict (termsOf (siteIn b)) (siteIn b .sulphur) (siteIn b .nitrogen))
-  unfolding heldAfter judgementNumbers loadsNumbers loadNumbers
+  unfolding heldAfter judgementNumbers siteLoadNumbers loadNumbers
   mark-is e p l =
       let q : new ≡ judgementNumbers (siteIn b) ++ drop (length (judgementNumbers (siteIn b))) old = rw (output-whole 8 (length old) (valueCheck b) p l) at e in
       rw q (mark-at (verdict (termsOf (siteIn b)) (siteIn b .sulphur) (siteIn b .nitrogen)) (drop (length (judgementNumbers (siteIn b))) old))

@@ -2,14 +2,14 @@
 use Prim.Native.Nat.{ℕ, _+_, _*_, _%_, _<_}
 use mathlib.Core.Path.{_≡_}
 use mathlib.Core.List.{List}
+use lib.ListN.{length}
 use Rattle.site.specs.Refusal.{ruleNumber}
 use Rattle.site.specs.declared.Rule.{Rule}
 use Rattle.record.specs.declared.Outcome.{Outcome}
 use Rattle.record.specs.declared.Outcome.the-variants.{Accepted, Refused as NotAccepted}
 use Rattle.output.specs.declared.Written.{Written}
 use Rattle.output.specs.declared.Written.the-variants.{Count, Refused}
-use Rattle.output.specs.Output.{held}
-use Rattle.text.specs.TextAnswer.{textAnswer}
+use Rattle.output.specs.Output.{roomRule, writeAnswer, held}
 
 -- 2³²
 abbrev pub codeBase : ℕ
@@ -30,7 +30,7 @@ pub record Decodes (answer : Written) (r : ℕ) : Type 0 where
 -- a record read and written again: what the reader says, else 11 or the count of its own bytes
 unfoldable pub rewriteAnswer : Outcome → (bytes old : List ℕ) → Written
 rewriteAnswer (NotAccepted rule at) b old = Refused rule at
-rewriteAnswer Accepted b old = textAnswer b old
+rewriteAnswer Accepted b old = writeAnswer (roomRule (length b) (length old)) (length b)
 
 unfoldable pub rewriteHeld : Outcome → (bytes old : List ℕ) → List ℕ
 rewriteHeld (NotAccepted rule at) b old = old

@@ -51,8 +51,8 @@ valueCheck b = andThen (pick (eqb (length b) 50) Passed (Broken BadLength)) (sit
 abbrev pub valueAnswer : List ℕ → (needed room : ℕ) → Written
 valueAnswer b needed room = writeAnswer (outputRule (valueCheck b) needed room) needed
 
-unfoldable pub loadsNumbers : Site → List ℕ
-loadsNumbers s = loadNumbers (loadsOf (termsOf s))
+unfoldable pub siteLoadNumbers : Site → List ℕ
+siteLoadNumbers s = loadNumbers (loadsOf (termsOf s))
 
 -- 0 within, 1 over
 unfoldable pub markNumber : Verdict → ℕ
@@ -63,4 +63,4 @@ unfoldable pub verdictMarked : Verdict → List ℕ
 verdictMarked v = verdictNumbers v ++ (markNumber v ∷ [])
 
 unfoldable pub judgementNumbers : Site → List ℕ
-judgementNumbers s = loadsNumbers s ++ verdictMarked (verdict (termsOf s) (s .sulphur) (s .nitrogen))
+judgementNumbers s = siteLoadNumbers s ++ verdictMarked (verdict (termsOf s) (s .sulphur) (s .nitrogen))

@@ -6,7 +6,7 @@ ghost use Rattle.judgement.specs.Balance.{MarkSays};
 ghost use Rattle.output.specs.Output.{writeAnswer, outputRule, heldAfter};
 ghost use Rattle.output.specs.Writing.{Wrote};
 ghost use Rattle.exports.specs.Codes.{writtenCode, Decodes};
-ghost use Rattle.exports.specs.Layout.{siteIn, valueCheck, valueAnswer, loadsNumbers, judgementNumbers, verdictMarked};
+ghost use Rattle.exports.specs.Layout.{siteIn, valueCheck, valueAnswer, siteLoadNumbers, judgementNumbers, verdictMarked};
 use crate::codes::refusal_code;
 use crate::layout::site_in;
 use judgement::JudgementAnswer;
@@ -47,7 +47,7 @@ fn put_four(out: &mut [u64], at: usize, ns: [u64; 4])
 #[no_mangle]
 pub extern "C" fn forest_loads(site: &[u8], out: &mut [u64]) -> u64
     ensures answer { λ r. ⌜ r ≡ writtenCode (valueAnswer (now (site .entry)) 4 (length (now (out .entry)))) ⌝ }
-    ensures buffer { λ _. ⌜ now (out .exit) ≡ heldAfter (outputRule (valueCheck (now (site .entry))) 4 (length (now (out .entry)))) (loadsNumbers (siteIn (now (site .entry)))) (now (out .entry)) ⌝ }
+    ensures buffer { λ _. ⌜ now (out .exit) ≡ heldAfter (outputRule (valueCheck (now (site .entry))) 4 (length (now (out .entry)))) (siteLoadNumbers (siteIn (now (site .entry)))) (now (out .entry)) ⌝ }
     ensures decoded { λ r. ⌜ Decodes (valueAnswer (now (site .entry)) 4 (length (now (out .entry)))) r ⌝ }
 {
     if site.len() != 50 {

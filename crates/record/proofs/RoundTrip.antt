@@ -1,16 +1,12 @@
 -- Reading and writing undo each other.
-use mathlib.Core.Path.{_≡_, refl, sym, ap, _∙_}
-use mathlib.Core.Bool.{Bool, true, false}
+use mathlib.Core.Path.{_≡_, sym, ap, _∙_}
 use mathlib.Core.List.{List, [], append-nil}
-use lib.Dec.{eqb}
 use Prim.Native.Nat.{ℕ, _+_, _-_, _≤_}
 use native.Mathlib.Omega.{arith}
 use lib.ListN.{length, take}
 use lib.Seq.{take-all}
 use Rattle.site.specs.declared.Site.{Site}
 use Rattle.site.specs.declared.Rule.{Rule}
-use Rattle.site.specs.declared.Rule.the-variants.{NoBytes, TooMany}
-use Rattle.site.specs.Choice.{pick}
 use Rattle.site.specs.declared.Checked.the-variants.{Passed}
 use Rattle.site.specs.Check.{siteRule}
 use Rattle.field.specs.Field.{siteKind}
@@ -18,9 +14,9 @@ use Rattle.field.specs.Clean.{clean, Sized, AllBytes}
 use Rattle.record.specs.declared.Read.{Read}
 use Rattle.record.specs.declared.Outcome.{Outcome}
 use Rattle.record.specs.declared.Outcome.the-variants.{Accepted, Refused}
-use Rattle.record.specs.Result.{Result, good, fault, resultNumbers}
-use Rattle.record.specs.ReadAnswers.{accepted, refusedAt, readOf}
-use Rattle.record.specs.Records.{mostRecord, recordIn, onlyOne, single}
+use Rattle.record.specs.Result.{good, fault, resultNumbers}
+use Rattle.record.specs.ReadAnswers.{accepted}
+use Rattle.record.specs.Records.{mostRecord, recordIn}
 use Rattle.record.specs.Outer.{outcomeNumbers, siteTag, siteKinds, siteAt, onlySite, readRecord}
 use Rattle.record.specs.Writer.{encode, WritesAgain}
 use Rattle.record.proofs.EncodeLaws.{length-encode}

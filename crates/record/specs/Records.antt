@@ -13,7 +13,7 @@ use Rattle.record.specs.FieldParts.{statedLen, valueAt}
 use Rattle.field.specs.Kind.{Kind}
 use Rattle.record.specs.Fields.{fieldsIn}
 
--- the greatest length of an outer field, and of a record with its tag and its length; 258
+-- the greatest length of an outer field's value, and of a record with its tag and its length; 258
 abbrev pub mostOuter : ℕ
 mostOuter = 255
 

@@ -37,11 +37,11 @@ unfoldable pub andThen : Checked → Checked → Checked
 andThen Passed c = c
 andThen (Broken r) c = Broken r
 
--- the values of a refusal: its number, and offset 0
+-- the values of a refusal as it is answered: its number, and offset 0
 abbrev pub refusalValues : Rule → List ℕ
 refusalValues r = ruleNumber r ∷ 0 ∷ []
 
--- the values of an answer: those given, or the refusal's
+-- the values that an answer is to have: those given, or the refusal's number and offset 0
 unfoldable pub valuesIf : Checked → List ℕ → List ℕ
 valuesIf Passed vs = vs
-valuesIf (Broken r) vs = refusalValues r
+valuesIf (Broken r) vs = ruleNumber r ∷ 0 ∷ []

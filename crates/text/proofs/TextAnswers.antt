@@ -1,17 +1,16 @@
 -- The answer and the buffer, where the text does not fit and where it is written.
 use Prim.Native.Nat.{ℕ, _≤_, _<_}
-use mathlib.Core.Path.{_≡_, refl, sym, ap, _∙_}
+use mathlib.Core.Path.{_≡_, refl, ap}
 use mathlib.Core.List.{List, _++_}
 use native.Mathlib.Omega.{arith}
 use lib.ListN.{length, take, drop}
 use lib.Seq.{take-append-seam}
 use Rattle.site.specs.ByCheck.{answerIf}
-use Rattle.site.specs.declared.Rule.{Rule}
 use Rattle.site.specs.declared.Rule.the-variants.{BufferShort}
 use Rattle.site.specs.declared.Checked.{Checked}
 use Rattle.site.specs.declared.Checked.the-variants.{Passed, Broken}
 use Rattle.output.specs.Writing.{Wrote}
-use Rattle.output.specs.Output.{roomRule, heldAfter, writeAnswer, writtenNumbers, outputNumbers, held, heldNumbers}
+use Rattle.output.specs.Output.{roomRule, heldAfter, writtenNumbers, outputNumbers, held, heldNumbers}
 use Rattle.output.proofs.WritingLaws.{in-front}
 use Rattle.output.proofs.OutputLaws.{room-enough, room-short}
 use Rattle.output.specs.declared.Written.{Written}

@@ -18,6 +18,9 @@ static const uint8_t file[156] = {
 };
 enum { RECORD = 78, SITE = 50, ROOM = 200, SPARE = 0xA5 };
 
+/* The longest listing and record that document 01 lets be are within what the header gives. */
+_Static_assert(FOREST_MOST_TEXT >= 51 + 500 * (8 + 7 * 8 + 7 + 1) && FOREST_MOST_RECORD >= 96, "forest.h: too short");
+
 static const uint8_t site[SITE] = {
     'A', '1', 0, 0, 0, 0, 0, 0, 2, 1, 10, 65, 50, 1, 0, 200, 0, 100, 0x07, 0xD0, 0, 0, 0, 0, 0, 0, 0, 0, 0, 0, 0, 0, 1,
     0, 50, 80, 0x01, 0x2C, 0x03, 0xE8, 0x0B, 0xB8, 0x03, 0xE8, 0, 20, 0x01, 0xF4, 0x02, 0xBC,

@@ -8,7 +8,7 @@ use Rattle.site.specs.declared.Checked.the-variants.{Passed}
 use Rattle.loads.specs.CriticalLoads.{loadNumbers}
 use Rattle.judgement.specs.Answers.{judgedOf}
 use Rattle.judgement.proofs.JudgementAnswers.{judgement-given, judgement-refused}
-use Rattle.exports.specs.Layout.{siteIn, valueCheck, loadsNumbers, judgementNumbers}
+use Rattle.exports.specs.Layout.{siteIn, valueCheck, siteLoadNumbers, judgementNumbers}
 use Rattle.exports.proofs.SiteValueLaws.{wrong-length, as-site, value-refused, value-short, value-written, length-judged, with-mark}
 use Rattle.output.proofs.WritingLaws.{then}
 use borrow.Author.Needs.{needs}
@@ -90,7 +90,7 @@ same-length : tie.Need-same-length
 same-length c = search needs
 
 returns-4 : tie.Need-returns-4
-unfolding judgementNumbers loadsNumbers judgedOf loadNumbers
+unfolding judgementNumbers siteLoadNumbers judgedOf loadNumbers
 returns-4 c =
     let second = c .before .before in
     let first = second .before .before .before .before in

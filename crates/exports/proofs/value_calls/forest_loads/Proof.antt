@@ -9,7 +9,7 @@ use Rattle.site.specs.declared.Checked.the-variants.{Passed}
 use Rattle.loads.specs.SiteTerms.{termsOf}
 use Rattle.loads.specs.CriticalLoads.{loadsOf, loadNumbers}
 use Rattle.loads.proofs.LoadsAnswers.{loads-given, loads-refused}
-use Rattle.exports.specs.Layout.{siteIn, valueCheck, loadsNumbers}
+use Rattle.exports.specs.Layout.{siteIn, valueCheck, siteLoadNumbers}
 use Rattle.exports.proofs.SiteValueLaws.{wrong-length, as-site, value-refused, value-short, value-written}
 use borrow.Author.Needs.{needs}
 use Rattle.exports.proofs.value_calls.forest_loads.Statement.{statement}
@@ -30,7 +30,7 @@ returns : tie.Need-returns
 returns c =
     let s = c .before .before .before .before in
     let b = now (s .args .site) in
-    rw (c .refusal-code .ensures) (value-refused b 4 (omega arith) (loadsNumbers (siteIn b)) (now (s .args .out)) BadLength (wrong-length b (c .before .if1 .taken)))
+    rw (c .refusal-code .ensures) (value-refused b 4 (omega arith) (siteLoadNumbers (siteIn b)) (now (s .args .out)) BadLength (wrong-length b (c .before .if1 .taken)))
 
 -- the value passed, and these are its loads
 loaded :
@@ -65,7 +65,7 @@ returns-2 c =
     let s = entry at in
     let b = now (s .args .site) in
     rw (c .refusal-code3 .ensures)
-    (value-short b 4 (omega arith) (loadsNumbers (siteIn b)) (now (s .args .out)) (loaded (c .before .before) .0) (c .before .if2 .taken))
+    (value-short b 4 (omega arith) (siteLoadNumbers (siteIn b)) (now (s .args .out)) (loaded (c .before .before) .0) (c .before .if2 .taken))
 
 put-four-requires : tie.Need-put-four-requires
 put-four-requires c κs = search needs
@@ -76,14 +76,14 @@ returns-3 c =
     let s = entry at in
     let b = now (s .args .site) in
     rw (c .refusal-code2 .ensures)
-    (value-refused b 4 (omega arith) (loadsNumbers (siteIn b)) (now (s .args .out)) _
+    (value-refused b 4 (omega arith) (siteLoadNumbers (siteIn b)) (now (s .args .out)) _
     (site-rule at ∙ loads-refused (at .before .site-in .result) _ (sym (at .critical-loads .ensures .0) ∙ c .before .before .rule .given .1)))
 
 same-length : tie.Need-same-length
 same-length c = search needs
 
 returns-4 : tie.Need-returns-4
-unfolding loadsNumbers loadNumbers
+unfolding siteLoadNumbers loadNumbers
 returns-4 c =
     let put = c .before .before in
     let told = put .before .before .before in
@@ -91,7 +91,7 @@ returns-4 c =
     let b = now (s .args .site) in
     let old = now (s .args .out) in
     let l = loaded told in
-    value-written b 4 (omega arith) (loadsNumbers (siteIn b)) old (l .0) refl (omega arith) (rw (l .1) at (put .put-four .ensures))
+    value-written b 4 (omega arith) (siteLoadNumbers (siteIn b)) old (l .0) refl (omega arith) (rw (l .1) at (put .put-four .ensures))
 
 pub forest-loads-spec : {M : Type 1} → statement M
 forest-loads-spec =

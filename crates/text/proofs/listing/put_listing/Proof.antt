@@ -1,6 +1,6 @@
 -- The header and the lines are put one after another, and their lengths add up to what was asked of the buffer.
 use Prim.Native.Nat.{_≤_, min}
-use mathlib.Core.Path.{_≡_, sym, ap, _∙_}
+use mathlib.Core.Path.{_≡_, ap}
 use mathlib.Core.Logic.{⊎-elim}
 use native.Mathlib.Omega.{arith}
 use denote.Ref.{now}
