@@ -1,12 +1,12 @@
 // A site value from its 50 bytes.
 ghost use mathlib.Core.Path.{_≡_};
 ghost use Rattle.exports.specs.Layout.{siteIn};
+use numbers::byte;
+use numbers::word_at;
 use site::Entry;
 use site::Site;
-use site::byte;
 use site::entry_at;
 use site::name_in;
-use site::word_at;
 
 fn stand(b: &[u8]) -> [Entry; 4]
     ensures { λ r. ⌜ r ≡ siteIn (now (b .entry)) .stand ⌝ }

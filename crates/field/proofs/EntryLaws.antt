@@ -8,7 +8,8 @@ use lib.ListN.{length, getD, take}
 use lib.Seq.{getD-drop}
 use Rattle.site.specs.declared.Entry.{Entry}
 use Rattle.site.specs.Bounds.{noEntry}
-use Rattle.site.specs.Bytes.{wordOf, tabulate, entryAt}
+use Rattle.numbers.specs.Words.{wordOf}
+use Rattle.site.specs.Bytes.{tabulate, entryAt}
 use Rattle.field.specs.Field.{entriesBytes}
 use Rattle.field.specs.Clean.{AllBytes}
 use Rattle.field.proofs.TabulateLaws.{tabulate-cong}

@@ -9,7 +9,8 @@ use Rattle.site.specs.declared.Rule.the-variants.{BadLength}
 use Rattle.site.proofs.Passing.{pass-then}
 use Rattle.site.specs.declared.Checked.{Checked}
 use Rattle.site.specs.declared.Checked.the-variants.{Passed}
-use Rattle.site.specs.Bytes.{wordAt, tabulate}
+use Rattle.numbers.specs.Words.{wordAt}
+use Rattle.site.specs.Bytes.{tabulate}
 use Rattle.field.specs.Clean.{AllBytes}
 use Rattle.field.specs.Field.{wordBytes}
 use Rattle.field.specs.Kind.{Kind, fieldRule}

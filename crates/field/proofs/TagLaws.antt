@@ -20,7 +20,7 @@ use Rattle.site.proofs.LengthLaws.{permitted-parts, parts-permitted, parts-coun
 use Rattle.field.specs.Clean.{Sized, AllBytes}
 use Rattle.field.proofs.All.{All, none, _▸_}
 use Rattle.field.proofs.TabulateLaws.{take-tabulate, tabulate-clean}
-use Rattle.site.proofs.PastLaws.{entry-past}
+use Rattle.site.proofs.EntryPast.{entry-past}
 use Rattle.field.proofs.EntryLaws.{stand-back, entries-back}
 use Rattle.field.proofs.KindLaws.{Made, Kept, parts-passed, OneLength, OneItem, byte-item, word-item, pair-item, words-item}
 use Rattle.field.proofs.FieldValueLaws.{name-counts, name-long, stand-counts, stand-long, bytes-long}

@@ -7,7 +7,8 @@ use lib.ListN.{getD, length, take, replicate}
 use Rattle.site.specs.declared.Entry.{Entry}
 use Rattle.site.specs.declared.Site.{Site}
 use Rattle.site.specs.Bounds.{noEntry}
-use Rattle.site.specs.Bytes.{wordAt, tabulate, nameIn, entryAt}
+use Rattle.numbers.specs.Words.{wordAt}
+use Rattle.site.specs.Bytes.{tabulate, nameIn, entryAt}
 use Rattle.site.specs.Choice.{pick}
 use Rattle.site.specs.Values.{due, lengthPermitted, valueRule}
 use Rattle.field.specs.declared.Taken.{Taken}

@@ -8,12 +8,13 @@ ghost use Rattle.site.specs.Values.{lengthPermitted};
 ghost use Rattle.field.specs.Field.{siteKind, taken, Stored};
 ghost use Rattle.field.specs.Kind.{fieldRule};
 use crate::Taken;
+use numbers::byte;
+use numbers::word_at;
 use site::Checked;
 use site::Rule;
 use site::Site;
 use site::available_rule;
 use site::base_deposition_rule;
-use site::byte;
 use site::ceiling_rule;
 use site::depth_rule;
 use site::drainage_rule;
@@ -29,7 +30,6 @@ use site::percolation_rule;
 use site::ratio_rule;
 use site::stand_rule;
 use site::texture_rule;
-use site::word_at;
 
 fn store_name(site: Site, value: &[u8]) -> Taken
     requires { ⌜ length (now value) ≤ 8 ⌝ }

@@ -21,8 +21,8 @@ use loads::Loads;
 use loads::LoadsAnswer;
 use loads::critical_loads;
 use loads::undenitrified_at;
+use numbers::wide16;
 use site::Site;
-use site::wide16;
 
 // Within needs region 0 and nutrient exceedance 0.
 fn verdict_from(region: Region, acid: u64, nutrient: u64) -> Verdict

@@ -20,12 +20,12 @@ use crate::uptake::base_uptake;
 use crate::uptake::stand_sums;
 use crate::weathering::available_of;
 use crate::weathering::weathering_of;
+use numbers::wide;
+use numbers::wide8;
+use numbers::wide16;
 use site::Checked;
 use site::Site;
 use site::check_site;
-use site::wide;
-use site::wide8;
-use site::wide16;
 
 // CLmaxS of plain numbers: W is weathered, w its available part
 fn acid_load(

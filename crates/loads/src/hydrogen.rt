@@ -8,11 +8,11 @@ ghost use Rattle.loads.specs.Supply.{limitOf};
 ghost use Rattle.loads.specs.Hydrogen.{hydrogenOf, alOf, levelOf, levelRule, levelAnswer, levelValues};
 ghost use Rattle.loads.specs.LoadsConditions.{Levels};
 use crate::LevelAnswer;
+use numbers::wide16;
 use site::Checked;
 use site::ceiling_rule;
 use site::gibbsite_rule;
 use site::percolation_rule;
-use site::wide16;
 
 // A: left is B + w − Bu
 pub fn aluminium_limit(left: u64, ratio: u64) -> u64

@@ -5,9 +5,9 @@ ghost use Rattle.site.specs.Ranges.{drainageRange, percolationRange, leachateRa
 ghost use Rattle.loads.specs.MostTerms.{mostL};
 ghost use Rattle.loads.specs.Nitrogen.{denitrified, undenitrifiedOf, leachingOf};
 ghost use Rattle.loads.specs.SiteTerms.{termsOf};
+use numbers::wide;
+use numbers::wide16;
 use site::Site;
-use site::wide;
-use site::wide16;
 
 // d, per mille, by drainage.
 const DENITRIFIED: [u16; 6] = [0, 100, 200, 400, 700, 800];

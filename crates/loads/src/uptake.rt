@@ -7,10 +7,10 @@ ghost use Rattle.site.specs.Bounds.{EntryBounds, StandBounds};
 ghost use Rattle.site.specs.Ranges.{percolationRange, mostSpecies};
 ghost use Rattle.loads.specs.Uptake.{speciesTable, baseUptakeOf};
 ghost use Rattle.loads.specs.LoadsConditions.{Weighed, Summed};
+use numbers::wide;
+use numbers::wide8;
+use numbers::wide16;
 use site::Entry;
-use site::wide;
-use site::wide8;
-use site::wide16;
 
 // The species table: Ca, Mg, K, N in hundredths of eq per tonne.
 const CONTENTS: [[u16; 4]; 9] = [

@@ -7,8 +7,8 @@ ghost use Rattle.loads.specs.Weathering.{classOf, weatheringOf, availabl
 ghost use Rattle.loads.specs.Texture.{textureOf};
 use crate::texture::texture_of;
 use crate::texture::texture_place;
-use site::wide;
-use site::wide8;
+use numbers::wide;
+use numbers::wide8;
 
 // Class k by parent material 0 to 4 and texture 1 to 5.
 const CLASSES: [[u8; 5]; 5] = [

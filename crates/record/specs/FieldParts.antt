@@ -2,7 +2,7 @@
 use Prim.Native.Nat.{ℕ, _+_}
 use mathlib.Core.List.{List, _∷_, _++_}
 use lib.ListN.{take, drop, length}
-use Rattle.site.specs.Bytes.{wordAt}
+use Rattle.numbers.specs.Words.{wordAt}
 use Rattle.field.specs.Field.{wordBytes}
 
 unfoldable pub fieldOf : ℕ → List ℕ → List ℕ

@@ -2,8 +2,8 @@
 ghost use mathlib.Core.Path.{_≡_};
 ghost use Prim.Native.Nat.{_≤_};
 ghost use Rattle.record.specs.FieldParts.{statedLen};
-use site::byte;
-use site::word;
+use numbers::byte;
+use numbers::word;
 
 // The length that a field's second and third byte state.
 pub fn stated_len(s: &[u8]) -> usize

@@ -7,9 +7,9 @@ ghost use Rattle.field.specs.Field.{value, wordBytes, entriesBytes};
 ghost use Rattle.record.specs.ValueBytes.{Holds};
 use crate::halves::hi;
 use crate::halves::lo;
+use numbers::wide;
 use site::Entry;
 use site::Site;
-use site::wide;
 
 // The first `len` of `bytes`; what stands behind them has no meaning.
 pub struct ValueBytes {

@@ -10,12 +10,12 @@ ghost use Rattle.field.specs.Clean.{clean};
 ghost use Rattle.record.specs.Writer.{encode, writeRule};
 use crate::put::put_fields;
 use crate::put::put_head;
+use numbers::wide;
 use output::Written;
 use site::Checked;
 use site::Rule;
 use site::Site;
 use site::check_site;
-use site::wide;
 
 // The bytes of the fields: 15 heads, 24 bytes of values of one length, the name and the entries.
 fn body_len(name: u8, entries: u8) -> usize

@@ -1,5 +1,5 @@
 pub mod Tests
-pub mod PastLaws
+pub mod EntryPast
 pub mod BelowLaws
 pub mod MatchLaws
 pub mod Passing

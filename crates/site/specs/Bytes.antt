@@ -1,16 +1,10 @@
--- What stands in bytes: numbers of two bytes have the high byte first, and past the end stand zeros.
-use Prim.Native.Nat.{ℕ, zero, suc, _+_, _*_}
+-- A name and an entry in bytes; past the end stand zeros.
+use Prim.Native.Nat.{ℕ, zero, suc, _+_}
 use mathlib.Core.List.{List, [], _∷_}
 use lib.ListN.{getD}
+use Rattle.numbers.specs.Words.{wordAt}
 use Rattle.site.specs.declared.Entry.{Entry}
 use Rattle.site.specs.Ranges.{mostName}
-
-abbrev pub wordOf : ℕ → ℕ → ℕ
-wordOf hi lo = 256 * hi + lo
-
--- the number at place i
-abbrev pub wordAt : List ℕ → ℕ → ℕ
-wordAt bs i = wordOf (getD bs i 0) (getD bs (i + 1) 0)
 
 -- n elements, of which number i is f i
 unfoldable pub tabulate {ℓ} : {A : Type ℓ} → ℕ → (ℕ → A) → List A

@@ -4,7 +4,7 @@ ghost use Rattle.site.specs.Values.{itemsOf, lengthPermitted, itemCount,
 use crate::Checked;
 use crate::Rule;
 use crate::Site;
-use crate::widen::wide;
+use numbers::wide;
 
 // How many bytes an item of a field has, and how many items there may be.
 struct Items {

@@ -1,20 +1,16 @@
 // The value of a forest site, the rules of document 01, and the check of a site value.
+mod between;
 mod bytes;
 mod check;
 mod length;
 mod name;
-mod numbers;
 mod ranges;
 mod refusal;
 mod stand;
 mod value;
-mod widen;
 
-pub use bytes::byte;
 pub use bytes::entry_at;
 pub use bytes::name_in;
-pub use bytes::word;
-pub use bytes::word_at;
 pub use check::check_site;
 pub use length::length_permitted;
 pub use name::name_rule;
@@ -32,9 +28,6 @@ pub use ranges::ratio_rule;
 pub use ranges::texture_rule;
 pub use refusal::rule_number;
 pub use stand::stand_rule;
-pub use widen::wide;
-pub use widen::wide8;
-pub use widen::wide16;
 
 // An entry of the stand: species, share in percent, yield of a pure stand in kg dry matter per hectare and year.
 pub struct Entry {

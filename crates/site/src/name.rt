@@ -3,8 +3,8 @@ ghost use mathlib.Core.Path.{_≡_};
 ghost use lib.ListN.{take};
 ghost use Rattle.site.specs.Values.{nameByte, allOf, ranged};
 use crate::Checked;
-use crate::numbers::in_range;
-use crate::widen::wide;
+use crate::between::in_range;
+use numbers::wide;
 
 fn name_byte(b: u8) -> bool
     ensures { λ r. ⌜ r ≡ nameByte b ⌝ }

@@ -5,10 +5,10 @@ ghost use lib.Dec.{leb};
 ghost use Rattle.site.specs.Ranges.{parentRange, depthRange, drainageRange, percolationRange, immobilisationRange, availableRange, baseDepositionRange, ratioRange, gibbsiteRange, ceilingRange, leachateRange, mostTexture};
 ghost use Rattle.site.specs.Values.{ranged, between};
 use crate::Checked;
-use crate::numbers::byte_between;
-use crate::numbers::in_range;
-use crate::numbers::word_between;
-use crate::widen::wide;
+use crate::between::byte_between;
+use crate::between::in_range;
+use crate::between::word_between;
+use numbers::wide;
 
 pub fn parent_rule(x: u8) -> Checked
     ensures { λ r. ⌜ r ≡ between parentRange x ⌝ }

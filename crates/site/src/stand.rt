@@ -9,7 +9,7 @@ ghost use Rattle.site.specs.Values.{entryRanged, orderRule, standRule};
 use crate::Checked;
 use crate::Entry;
 use crate::Rule;
-use crate::widen::wide;
+use numbers::wide;
 
 fn entry_ranged(e: Entry) -> bool
     ensures { λ r. ⌜ r ≡ entryRanged e ⌝ }

@@ -2,7 +2,7 @@ use mathlib.Core.Path.{sym}
 use denote.Ref.{now}
 use borrow.Author.Needs.{needs}
 use Rattle.site.specs.Bytes.{entryAt}
-use Rattle.site.proofs.PastLaws.{entry-past}
+use Rattle.site.proofs.EntryPast.{entry-past}
 use Rattle.site.proofs.bytes.entry_at.Statement.{statement}
 use Rattle.site.proofs.bytes.entry_at.Tie as tie
 

@@ -1,9 +1,9 @@
 use mathlib.Core.Path.{sym}
 use denote.Ref.{now}
 use borrow.Author.Needs.{needs}
-use Rattle.site.proofs.PastLaws.{word-past}
-use Rattle.site.proofs.bytes.word_at.Statement.{statement}
-use Rattle.site.proofs.bytes.word_at.Tie as tie
+use Rattle.numbers.proofs.PastTheEnd.{word-past}
+use Rattle.numbers.proofs.bytes.word_at.Statement.{statement}
+use Rattle.numbers.proofs.bytes.word_at.Tie as tie
 
 returns : tie.Need-returns
 returns c = let a = c .before .before .args in sym (word-past (now (a .s)) (a .i) (c .if1 .taken))

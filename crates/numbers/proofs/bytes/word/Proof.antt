@@ -1,6 +1,6 @@
 use native.Mathlib.Omega.{arith}
-use Rattle.site.proofs.bytes.word.Statement.{statement}
-use Rattle.site.proofs.bytes.word.Tie as tie
+use Rattle.numbers.proofs.bytes.word.Statement.{statement}
+use Rattle.numbers.proofs.bytes.word.Tie as tie
 
 mul-result : tie.Need-mul-result
 mul-result c = omega arith

@@ -4,15 +4,10 @@ use mathlib.Core.List.{List}
 use Prim.Native.Nat.{ℕ, _+_, _≤_}
 use native.Mathlib.Omega.{arith}
 use lib.ListN.{length, getD, List·getD-eq-default}
-use Rattle.site.specs.Bounds.{noEntry}
-use Rattle.site.specs.Bytes.{wordAt, entryAt}
+use Rattle.numbers.specs.Words.{wordAt}
 
-byte-past : (v : List ℕ) (i : ℕ) → length v ≤ i → getD v i 0 ≡ 0
+pub byte-past : (v : List ℕ) (i : ℕ) → length v ≤ i → getD v i 0 ≡ 0
 byte-past v i h = List·getD-eq-default v 0 {n = i} h
 
 pub word-past : (v : List ℕ) (i : ℕ) → length v ≤ i → wordAt v i ≡ 0
 word-past v i h = rw (byte-past v i h, byte-past v (i + 1) (omega arith))
-
-pub entry-past : (v : List ℕ) (i : ℕ) → length v ≤ i → entryAt v i ≡ noEntry
-unfolding entryAt
-entry-past v i h = rw (byte-past v i h, byte-past v (i + 1) (omega arith), word-past v (i + 2) (omega arith))

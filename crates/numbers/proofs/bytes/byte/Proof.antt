@@ -2,8 +2,8 @@ use mathlib.Core.Path.{sym}
 use lib.ListN.{List·getD-eq-default}
 use denote.Ref.{now}
 use borrow.Author.Needs.{needs}
-use Rattle.site.proofs.bytes.byte.Statement.{statement}
-use Rattle.site.proofs.bytes.byte.Tie as tie
+use Rattle.numbers.proofs.bytes.byte.Statement.{statement}
+use Rattle.numbers.proofs.bytes.byte.Tie as tie
 
 shared-slice-read-result : tie.Need-shared-slice-read-result
 shared-slice-read-result c = search needs

@@ -1,8 +1,8 @@
 use borrow.Author.Needs.{needs}
 use borrow.Author.Tests.{lt-leb, le-leb}
 use Rattle.site.specs.Values.{between}
-use Rattle.site.proofs.numbers.word_between.Statement.{statement}
-use Rattle.site.proofs.numbers.word_between.Tie as tie
+use Rattle.site.proofs.between.word_between.Statement.{statement}
+use Rattle.site.proofs.between.word_between.Tie as tie
 
 returns : tie.Need-returns
 unfolding between

@@ -1,6 +1,6 @@
 use borrow.Author.Needs.{needs}
-use Rattle.site.proofs.numbers.in_range.Statement.{statement}
-use Rattle.site.proofs.numbers.in_range.Tie as tie
+use Rattle.site.proofs.between.in_range.Statement.{statement}
+use Rattle.site.proofs.between.in_range.Tie as tie
 
 returns : tie.Need-returns
 returns c = search needs
