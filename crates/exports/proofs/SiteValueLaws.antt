@@ -111,7 +111,7 @@ module _ (b old new : List ℕ) where
       rw q (mark-at (verdict (termsOf (siteIn b)) (siteIn b .sulphur) (siteIn b .nitrogen)) (drop (length (judgementNumbers (siteIn b))) old))
 
   -- the number 8 says that the judgement was written, and then the mark says whether the balances close
-  pub mark-says : {r : ℕ}
+  mark-says : {r : ℕ}
       → r ≡ writtenCode (valueAnswer b 8 (length old)) → new ≡ heldAfter (outputRule (valueCheck b) 8 (length old)) (judgementNumbers (siteIn b)) old
       → r ≡ 8 → MarkSays (getD new 7 0) (siteIn b)
   mark-says a h e =

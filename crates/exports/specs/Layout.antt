@@ -7,7 +7,7 @@ use lib.ListN.{getD, length}
 use Rattle.site.specs.Choice.{pick}
 use Rattle.site.specs.Refusal.{andThen}
 use Rattle.site.specs.Check.{siteRule}
-use Rattle.numbers.specs.Words.{wordAt}
+use Rattle.numbers.specs.TwoBytes.{wordAt}
 use Rattle.site.specs.Bytes.{nameIn, entryAt}
 use Rattle.site.specs.declared.Site.{Site}
 use Rattle.site.specs.declared.Rule.the-variants.{BadLength}

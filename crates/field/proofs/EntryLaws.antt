@@ -8,7 +8,7 @@ use lib.ListN.{length, getD, take}
 use lib.Seq.{getD-drop}
 use Rattle.site.specs.declared.Entry.{Entry}
 use Rattle.site.specs.Bounds.{noEntry}
-use Rattle.numbers.specs.Words.{wordOf}
+use Rattle.numbers.specs.TwoBytes.{wordOf}
 use Rattle.site.specs.Bytes.{tabulate, entryAt}
 use Rattle.field.specs.Field.{entriesBytes}
 use Rattle.field.specs.Clean.{AllBytes}

@@ -9,10 +9,9 @@ use Rattle.site.specs.declared.Rule.the-variants.{BadLength}
 use Rattle.site.proofs.Passing.{pass-then}
 use Rattle.site.specs.declared.Checked.{Checked}
 use Rattle.site.specs.declared.Checked.the-variants.{Passed}
-use Rattle.numbers.specs.Words.{wordAt}
+use Rattle.numbers.specs.TwoBytes.{wordAt, wordBytes}
 use Rattle.site.specs.Bytes.{tabulate}
 use Rattle.field.specs.Clean.{AllBytes}
-use Rattle.field.specs.Field.{wordBytes}
 use Rattle.field.specs.Kind.{Kind, fieldRule}
 use Rattle.field.proofs.TabulateLaws.{tabulate-getD}
 use Rattle.field.proofs.EntryLaws.{word-back}

@@ -1,13 +1,13 @@
 -- The fields of a site record by tag, both ways: a value taken into a site, and the bytes of a site's value.
 use mathlib.Core.Path.{_≡_}
-use Prim.Native.Nat.{ℕ, _*_, _/_, _%_}
+use Prim.Native.Nat.{ℕ, _*_, _/_}
 use mathlib.Core.List.{List, [], _∷_, _++_}
 use lib.Dec.{eqb}
 use lib.ListN.{getD, length, take, replicate}
 use Rattle.site.specs.declared.Entry.{Entry}
 use Rattle.site.specs.declared.Site.{Site}
 use Rattle.site.specs.Bounds.{noEntry}
-use Rattle.numbers.specs.Words.{wordAt}
+use Rattle.numbers.specs.TwoBytes.{wordAt, wordBytes}
 use Rattle.site.specs.Bytes.{tabulate, nameIn, entryAt}
 use Rattle.site.specs.Choice.{pick}
 use Rattle.site.specs.Values.{due, lengthPermitted, valueRule}
@@ -37,9 +37,6 @@ store t v s = record {
   sulphur = pick (eqb t 15) (wordAt v 0) (s .sulphur);
   nitrogen = pick (eqb t 15) (wordAt v 2) (s .nitrogen);
 }
-
-abbrev pub wordBytes : ℕ → List ℕ
-wordBytes x = (x / 256) ∷ (x % 256) ∷ []
 
 -- the bytes of entries
 unfoldable pub entriesBytes : List Entry → List ℕ

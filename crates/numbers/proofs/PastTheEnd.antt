@@ -4,7 +4,7 @@ use mathlib.Core.List.{List}
 use Prim.Native.Nat.{ℕ, _+_, _≤_}
 use native.Mathlib.Omega.{arith}
 use lib.ListN.{length, getD, List·getD-eq-default}
-use Rattle.numbers.specs.Words.{wordAt}
+use Rattle.numbers.specs.TwoBytes.{wordAt}
 
 pub byte-past : (v : List ℕ) (i : ℕ) → length v ≤ i → getD v i 0 ≡ 0
 byte-past v i h = List·getD-eq-default v 0 {n = i} h

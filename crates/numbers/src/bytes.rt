@@ -1,7 +1,7 @@
 // Numbers that stand in bytes, with zeros past the end.
 ghost use mathlib.Core.Path.{_≡_};
 ghost use lib.ListN.{getD};
-ghost use Rattle.numbers.specs.Words.{wordOf, wordAt};
+ghost use Rattle.numbers.specs.TwoBytes.{wordOf, wordAt};
 
 pub fn byte(s: &[u8], i: usize) -> u8
     ensures { λ r. ⌜ r ≡ getD (now (s .entry)) i 0 ⌝ }

@@ -1,4 +1,4 @@
--- Output into a lent buffer: rule 11, what the buffer then holds, and the numbers of the answer.
+-- Output into a lent buffer: rule 11, what the buffer then holds, and the answer with its numbers.
 use Prim.Native.Nat.{ℕ}
 use mathlib.Core.List.{List, _++_}
 use lib.Dec.{leb}

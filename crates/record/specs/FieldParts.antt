@@ -2,8 +2,7 @@
 use Prim.Native.Nat.{ℕ, _+_}
 use mathlib.Core.List.{List, _∷_, _++_}
 use lib.ListN.{take, drop, length}
-use Rattle.numbers.specs.Words.{wordAt}
-use Rattle.field.specs.Field.{wordBytes}
+use Rattle.numbers.specs.TwoBytes.{wordAt, wordBytes}
 
 unfoldable pub fieldOf : ℕ → List ℕ → List ℕ
 fieldOf t v = t ∷ wordBytes (length v) ++ v

@@ -2,7 +2,7 @@
 use Prim.Native.Nat.{ℕ, zero, suc, _+_}
 use mathlib.Core.List.{List, [], _∷_}
 use lib.ListN.{getD}
-use Rattle.numbers.specs.Words.{wordAt}
+use Rattle.numbers.specs.TwoBytes.{wordAt}
 use Rattle.site.specs.declared.Entry.{Entry}
 use Rattle.site.specs.Ranges.{mostName}
 
