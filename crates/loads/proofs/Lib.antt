@@ -6,5 +6,6 @@ pub mod GreatestLaws
 pub mod LevelLaws
 pub mod TermLaws
 pub mod SiteTermLaws
+pub mod LoadBounds
 pub mod OneSiteLaws
 pub mod LoadsAnswers

@@ -11,6 +11,8 @@ use Rattle.site.proofs.Tests.{and-l, and-r}
 use Rattle.site.proofs.BelowLaws.{allBelow, one-below}
 use Rattle.loads.specs.Weathering.{classOf}
 use Rattle.loads.specs.Nitrogen.{denitrified, undenitrifiedOf}
+use Rattle.loads.specs.Uptake.{content, nitrogenIn}
+use Rattle.loads.specs.MostTerms.{leastE}
 
 -- class k is 20 at most, and 1 at least where the parent material is not organic
 abbrev classTest : ℕ → ℕ → Bool
@@ -34,9 +36,17 @@ pub undenitrified-le : (d : ℕ) → undenitrifiedOf d ≤ 1000
 unfolding undenitrifiedOf
 undenitrified-le d = omega arith
 
-pub undenitrified-pos : (d : ℕ) → d ≤ 5 → 1 ≤ undenitrifiedOf d
+pub undenitrified-least : (d : ℕ) → d ≤ 5 → leastE ≤ undenitrifiedOf d
 unfolding undenitrifiedOf denitrified
-undenitrified-pos d h = leb-true _ _ (one-below (λ d. leb 1 (undenitrifiedOf d)) 6 refl d (omega arith))
+undenitrified-least d h = leb-true _ _ (one-below (λ d. leb leastE (undenitrifiedOf d)) 6 refl d (omega arith))
+
+pub undenitrified-pos : (d : ℕ) → d ≤ 5 → 1 ≤ undenitrifiedOf d
+undenitrified-pos d h = omega (arith, undenitrified-least d h)
+
+-- contents have two bytes
+pub nitrogen-content-le : (x : ℕ) → x ≤ 8 → nitrogenIn x ≤ 65535
+unfolding nitrogenIn content
+nitrogen-content-le x h = leb-true _ _ (one-below (λ x. leb (nitrogenIn x) 65535) 9 refl x (omega arith))
 
 -- d is 1000 at most, so e = 1000 − d is not cut off
 pub denitrified-le : (d : ℕ) → d ≤ 5 → denitrified d ≤ 1000

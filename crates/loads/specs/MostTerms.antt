@@ -41,3 +41,15 @@ mostBaseWeight = shareRange .most * mostYield * (3 * 65535)
 -- CLminN, without the use of the shares adding up to 100; 52928
 abbrev pub mostMinN : ℕ
 mostMinN = mostEntries * mostNitrogenWeight / uptakeDivisor + immobilisationRange .most
+
+-- e, the least: 1000 − 800
+abbrev pub leastE : ℕ
+leastE = 200
+
+-- CLmaxN; 1868553
+abbrev pub mostMaxN : ℕ
+mostMaxN = mostMinN + 1000 * mostMaxS / leastE
+
+-- CLnutN; 202928
+abbrev pub mostNutN : ℕ
+mostNutN = mostMinN + 1000 * mostL / leastE

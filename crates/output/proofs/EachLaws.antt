@@ -9,7 +9,7 @@ use lib.Seq.{take-suc, take-add, take-length}
 use Rattle.output.specs.Writing.{each}
 
 module _ {A B : Type 0} (f : A → List B) where
-  each-append : (xs ys : List A) → each f (xs ++ ys) ≡ each f xs ++ each f ys
+  pub each-append : (xs ys : List A) → each f (xs ++ ys) ≡ each f xs ++ each f ys
   unfolding each
   each-append [] ys = refl
   each-append (x ∷ xs) ys = ap (λ (l : List B). f x ++ l) (each-append xs ys) ∙ sym (append-assoc (f x) (each f xs) (each f ys))

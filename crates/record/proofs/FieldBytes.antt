@@ -51,15 +51,20 @@ three bs h =
     let h2 : 2 < length bs = omega arith in
     drop-cons bs 0 0 h0 ∙ ap (λ (r : List ℕ). getD bs 0 0 ∷ r) (drop-cons bs 1 0 h1 ∙ ap (λ (r : List ℕ). getD bs 1 0 ∷ r) (drop-cons bs 2 0 h2))
 
-pub value-bytes : (bs : List ℕ) → AllBytes bs → AllBytes (valueAt bs)
-value-bytes bs b i =
-    let n = statedLen bs in
+take-bytes : (n : ℕ) (bs : List ℕ) → AllBytes bs → AllBytes (take n bs)
+take-bytes n bs b i =
     ⊎-elim
     (λ (past : n ≤ i).
-    let h : length (valueAt bs) ≤ i = simp length-take (omega arith) in
-    rw (List·getD-eq-default (valueAt bs) 0 {n = i} h) (omega arith))
-    (λ (within : i < n). rw (getD-take n (drop 3 bs) i 0, getD-drop) (b (3 + i)))
+    let h : length (take n bs) ≤ i = simp length-take (omega arith) in
+    rw (List·getD-eq-default (take n bs) 0 {n = i} h) (omega arith))
+    (λ (within : i < n). rw (getD-take n bs i 0) (b i))
     (le-or-lt n i)
+
+pub part-bytes : (n m : ℕ) (bs : List ℕ) → AllBytes bs → AllBytes (take n (drop m bs))
+part-bytes n m bs b = take-bytes n (drop m bs) (λ i. rw getD-drop (b (m + i)))
+
+pub value-bytes : (bs : List ℕ) → AllBytes bs → AllBytes (valueAt bs)
+value-bytes bs = part-bytes (statedLen bs) 3 bs
 
 pub rest-bytes : (bs : List ℕ) → AllBytes bs → AllBytes (restAt bs)
 rest-bytes bs b i = rw getD-drop (b (3 + statedLen bs + i))

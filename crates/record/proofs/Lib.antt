@@ -10,6 +10,7 @@ pub mod EncodeLaws
 pub mod OuterLaws
 pub mod SiteTrips
 pub mod Place
+pub mod PairLaws
 pub mod SiteFile
 pub mod RoundTrip
 pub mod RecordWritten

@@ -1,5 +1,5 @@
 -- Laws of a file of site records.
-use Prim.Native.Nat.{ℕ, _*_, _≤_, _<_}
+use Prim.Native.Nat.{ℕ, _*_, _-_, _≤_, _<_}
 use mathlib.Core.Path.{_≡_, sym, ap, _∙_}
 use mathlib.Core.Logic.{_⊎_}
 use mathlib.Core.List.{List, map}
@@ -24,6 +24,8 @@ use Rattle.field.proofs.All.{All}
 use Rattle.record.proofs.EncodeLaws.{length-encode}
 use Rattle.record.proofs.FileLaws.{contents-none, contents-some, contents-every, file-of-one, contents-more, contents-written, contents-read}
 use Rattle.record.proofs.FirstFaultLaws.{first-in-record, first-in-file, file-fault-near}
+use Rattle.record.proofs.FieldBytes.{part-bytes}
+use Rattle.record.proofs.PairLaws.{PairRange, pair-range}
 use Rattle.record.proofs.Place.{site-take, site-fault-near, site-near, site-inside, site-after, site-passes, site-bytes, site-read}
 
 module _ (f : List ℕ) where
@@ -70,6 +72,12 @@ module _ (f : List ℕ) where
   pub sites-checked : (ss : List Site) → contents f ≡ good ss → (length ss ≤ mostRecords) × All (λ s. siteRule s ≡ Passed) ss
   unfolding contents
   sites-checked ss e = contents-every (siteAt f) (length f) (λ s. siteRule s ≡ Passed) (λ at x r. site-passes f at r) mostRecords ss e
+
+  -- and S and N of each, where the file is bytes, are in their range
+  pub sites-pairs : AllBytes f → (ss : List Site) → contents f ≡ good ss → All PairRange ss
+  unfolding contents
+  sites-pairs b ss e =
+      contents-every (siteAt f) (length f) PairRange (λ at x r. pair-range (x .0) (rw (site-bytes f at r b) (part-bytes (x .1 - at) at f b))) mostRecords ss e .1
 
   pub sites-more : (m : ℕ) → mostFile ≤ m → contents (take m f) ≡ contents f
   unfolding contents
