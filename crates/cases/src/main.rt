@@ -3,11 +3,14 @@
 //   F  a file: its report
 //   R  a single record: read, written again into a buffer that is long enough, and shown in hexadecimal
 //   S  the same with a buffer one byte shorter than the record
+//   P  a file: its pages, or the line of its refusal
+//   T  two bytes, a count with the high byte first, then one record: the pages of a file of that many such records, as far as the buffer holds them
 ghost use Prim.Native.Nat.{_≤_};
 ghost use lib.ListN.{length};
 ghost use Rattle.io.specs.Counts.{Counts};
 use listing::report;
 use output::Written;
+use pages::list_pages;
 use record::Outcome;
 use record::read_record;
 use record::write_record;
@@ -113,12 +116,64 @@ fn print_rewritten(bytes: &[u8], out: &mut [u8]) {
     }
 }
 
+fn print_pages(file: &[u8]) {
+    let mut out = [0u8; 33085];
+    match list_pages(file, &mut out) {
+        Written::Refused { rule, at } => print_refusal(rule, at),
+        Written::Count(n) => {
+            if n <= out.len() {
+                io::write_all(1, &out[..n]);
+            }
+        }
+    }
+}
+
+// The bytes count times over, as many as out holds.
+fn repeat(bytes: &[u8], count: usize, out: &mut [u8]) -> usize
+    requires { ⌜ 1 ≤ length (now bytes) ⌝ }
+    ensures { λ r. ⌜ Counts r (now (out .exit)) ⌝ }
+{
+    let mut n = 0;
+    let mut at = 0;
+    let mut left = count;
+    while 0 < left {
+        if n == out.len() {
+            return n;
+        }
+        out[n] = bytes[at];
+        n += 1;
+        at += 1;
+        if at == bytes.len() {
+            at = 0;
+            left -= 1;
+        }
+    }
+    n
+}
+
+// The number that two bytes hold.
+fn number(high: u8, low: u8) -> usize {
+    256 * (high as usize) + (low as usize)
+}
+
+// The buffer holds 501 records of 78 bytes, one more than a file may have.
+fn print_repeated(bytes: &[u8]) {
+    if bytes.len() < 3 {
+        return;
+    }
+    let count = number(bytes[0], bytes[1]);
+    let mut file = [0u8; 39078];
+    let n = repeat(&bytes[2..], count, &mut file);
+    print_pages(&file[..n]);
+}
+
 fn print_vector(kind: u8, bytes: &[u8], out: &mut [u8]) {
     match kind {
         70 => {
             let written = report(bytes, out);
             print_written(out, written);
         }
+        80 => print_pages(bytes),
         82 => print_rewritten(bytes, out),
         83 => {
             let n = bytes.len();
@@ -128,6 +183,7 @@ fn print_vector(kind: u8, bytes: &[u8], out: &mut [u8]) {
                 }
             }
         }
+        84 => print_repeated(bytes),
         _ => {}
     }
 }

@@ -6,6 +6,7 @@ mod record_calls;
 mod value_calls;
 
 pub use file_calls::forest_list;
+pub use file_calls::forest_pages;
 pub use file_calls::forest_report;
 pub use record_calls::forest_rewrite;
 pub use value_calls::forest_check;

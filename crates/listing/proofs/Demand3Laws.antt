@@ -1,7 +1,7 @@
 -- Demand 3, from the judgement of a site to the last word of its line.
 use Prim.Native.Nat.{ℕ, suc, _<_}
-use mathlib.Core.Path.{_≡_, refl}
-use mathlib.Core.Bool.{true, false≢true}
+use mathlib.Core.Path.{_≡_, refl, sym, ap, _∙_}
+use mathlib.Core.Bool.{true, false, false≢true}
 use mathlib.Core.List.{List, [], _∷_, map}
 use native.Mathlib.Omega.{arith}
 use lib.ListN.{length, getD, length-map}
@@ -34,32 +34,36 @@ pub says : (s : Site) → siteRule s ≡ Passed → Says (verdictWord (rowOf s .
 unfolding rowOf rowBy
 says s p = judged-says s p
 
--- a name has no 0A
-not-end : (x : ℕ) → nameByte x ≡ true → x ≡ 10 → ⊥
-unfolding nameByte
-not-end x h q = false≢true (rw q at h)
-
-name-free : (xs : List ℕ) → allOf nameByte xs ≡ true → free 10 xs ≡ true
+-- a name has none of the bytes that are not a name's, so no 0A and no space
+name-free : (b : ℕ) → nameByte b ≡ false → (xs : List ℕ) → allOf nameByte xs ≡ true → free b xs ≡ true
 unfolding allOf free
-name-free [] e = refl
-name-free (x ∷ xs) e =
+name-free b n [] e = refl
+name-free b n (x ∷ xs) e =
     let first = and-l (nameByte x) (allOf nameByte xs) e in
-    free-cons 10 x xs (not-end x first) (name-free xs (and-r (nameByte x) (allOf nameByte xs) e))
+    free-cons b x xs (λ q. false≢true (sym n ∙ ap nameByte (sym q) ∙ first)) (name-free b n xs (and-r (nameByte x) (allOf nameByte xs) e))
 
-plain-row : (s : Site) → siteRule s ≡ Passed → free 10 (nameText (rowOf s)) ≡ true
+pub site-name-free : (b : ℕ) → nameByte b ≡ false → (s : Site) → siteRule s ≡ Passed → free b (nameText (rowOf s)) ≡ true
 unfolding rowOf rowBy nameText valueRule
-plain-row s p = name-free _ (ranged-passed _ (site-passed s p 0 (omega arith) .1))
+site-name-free b n s p = name-free b n _ (ranged-passed _ (site-passed s p 0 (omega arith) .1))
+
+pub no-end : nameByte 10 ≡ false
+unfolding nameByte
+no-end = refl
+
+pub no-space : nameByte 32 ≡ false
+unfolding nameByte
+no-space = refl
 
 -- demand 3 in the listing
 module _ (f : List ℕ) (ss : List Site) (e : contents f ≡ good ss) where
-  passed : (k : ℕ) → k < length ss → siteRule (getD ss k blankSite) ≡ Passed
+  pub passed : (k : ℕ) → k < length ss → siteRule (getD ss k blankSite) ≡ Passed
   passed k h = all-at (sites-checked f ss e .1) k blankSite h
 
-  row-at : (k : ℕ) → k < length ss → getD (map rowOf ss) k blankRow ≡ rowOf (getD ss k blankSite)
+  pub row-at : (k : ℕ) → k < length ss → getD (map rowOf ss) k blankRow ≡ rowOf (getD ss k blankSite)
   row-at k h = getD-map rowOf ss k blankSite blankRow h
 
-  plain : Plain (map rowOf ss)
-  plain k l = let h : k < length ss = omega (arith, length-map ss rowOf) in rw (row-at k h) (plain-row _ (passed k h))
+  pub plain : Plain (map rowOf ss)
+  plain k l = let h : k < length ss = omega (arith, length-map ss rowOf) in rw (row-at k h) (site-name-free 10 no-end _ (passed k h))
 
   line-says : (k : ℕ) → k < length ss → Says (lastWord (lineAt (suc k) (listing (map rowOf ss)))) (getD ss k blankSite)
   line-says k h = rw (mark-of (map rowOf ss) k plain (omega (arith, length-map ss rowOf)), row-at k h) (says (getD ss k blankSite) (passed k h))

@@ -17,7 +17,7 @@ use Rattle.output.specs.Output.{writtenNumbers}
 use Rattle.text.specs.TextAnswer.{RoomEnough}
 use Rattle.text.specs.Marks.{Marked}
 use Rattle.output.proofs.OutputLaws.{count-is, refused-at-0}
-use Rattle.text.proofs.TextAnswers.{Answered, Clauses, clauses-then, by-clauses, by-clauses-then, written}
+use Rattle.text.proofs.TextAnswers.{AnsweredWithin, Answered, Clauses, clauses-then, by-clauses, by-clauses-then, written}
 use Rattle.listing.specs.declared.Walked.{Walked}
 use Rattle.record.specs.Result.{good, fault}
 use Rattle.record.specs.File.{Contents, contents}
@@ -26,8 +26,9 @@ use Rattle.record.specs.Records.{mostRecord}
 use Rattle.record.proofs.ResultLaws.{not-good}
 use Rattle.record.proofs.SiteFile.{sites-fault-near}
 use Rattle.listing.specs.Rows.{rowOf, padded, walkedOf}
-use Rattle.listing.specs.Reports.{listAnswer, listNumbers, listHeld, ListRoomEnough, printed, reportOf}
-use Rattle.listing.specs.PrintedDemand3.{WrittenDemand3}
+use Rattle.listing.specs.FileText.{fileAnswer, fileNumbers, fileHeld, FileRoom}
+use Rattle.listing.specs.Reports.{listingOf, printed, reportOf}
+use Rattle.listing.specs.PrintedDemand3.{LinesSay, TextSays, WrittenSays, WrittenDemand3}
 use Rattle.listing.proofs.Demand3Laws.{listing-says}
 
 -- ---- what the walk has found
@@ -36,11 +37,12 @@ use Rattle.listing.proofs.Demand3Laws.{listing-says}
 pub record Filled (w : Walked) (c : Contents Site) : Type 0 where
   pub ss : List Site
   pub holds : c ≡ good ss
+  pub counted : w .count ≡ length ss
   pub rows : take (w .count) (w .rows) ≡ map rowOf ss
 
 walked-sites : (c : Contents Site) → walkedOf c .outcome ≡ Accepted → Filled (walkedOf c) c
 unfolding walkedOf padded
-walked-sites (good ss) e = record { ss = ss; holds = refl; rows = take-at (map rowOf ss) _ (length ss) (length-map ss rowOf) }
+walked-sites (good ss) e = record { ss = ss; holds = refl; counted = refl; rows = take-at (map rowOf ss) _ (length ss) (length-map ss rowOf) }
 walked-sites (fault rule at) e = let z : _≡_ {A = ℕ} 0 1 = cc in absurd (omega arith)
 
 pub found-sites : {w : Walked} (c : Contents Site) → w ≡ walkedOf c → w .outcome ≡ Accepted → Filled w c
@@ -60,46 +62,55 @@ pub by-sites : {w : Walked} {c : Contents Site} (x : Filled w c) (d : List ℕ) 
     → Answered (listing (map rowOf (x .ss))) d e r
 by-sites x d p = rw (← x .rows) (by-clauses-then p)
 
--- ---- the listing
+-- ---- a text of the sites, and the listing
 
--- the clauses of the call that lists
-abbrev ListClauses : List ℕ → List ℕ → List ℕ → Written → Type 0
-ListClauses f d e r =
-    (r ≡ listAnswer (contents f) d) × ((e ≡ listHeld (contents f) d) × ((writtenNumbers r ≡ listNumbers (contents f) d) × (ListRoomEnough f d r × WrittenDemand3 f e r)))
+-- a text of the sites of a file, of at most `most` bytes, that says `Say` of them: a listing of any form
+module _ (most : ℕ) (text : List Site → List ℕ) (Say : List Site → List ℕ → Type 0) (f d : List ℕ) where
+  -- the clauses of the call that writes it
+  abbrev pub FileClauses : List ℕ → Written → Type 0
+  FileClauses e r =
+      (r ≡ fileAnswer text (contents f) d)
+      × ((e ≡ fileHeld text (contents f) d) × ((writtenNumbers r ≡ fileNumbers text (contents f) d) × (FileRoom most text (contents f) d r × WrittenSays Say f e r)))
 
-written3 : (f d : List ℕ) {e : List ℕ} {r : Written} (ss : List Site) → contents f ≡ good ss → Answered (listing (map rowOf ss)) d e r → WrittenDemand3 f e r
-written3 f d {e} {r} ss h a n b ts g =
-    let same : ss ≡ ts = cc in
-    rw (written (listing (map rowOf ss)) d e r (a .answer) (a .buffer) n b, same) (listing-says f ts g)
+  module _ (ss : List Site) (h : contents f ≡ good ss) {e : List ℕ} {r : Written} (a : AnsweredWithin most (text ss) d e r) where
+    enough : FileRoom most text (contents f) d r
+    enough ts g = let same : ss ≡ ts = cc in rw (← same) (a .enough)
 
-list-enough : (f d : List ℕ) {e : List ℕ} {r : Written} (ss : List Site) → contents f ≡ good ss → Answered (listing (map rowOf ss)) d e r → ListRoomEnough f d r
-list-enough f d ss h a ts g = let same : ss ≡ ts = cc in rw (← same) (a .enough)
+    pub says-so : TextSays Say f (text ss) → WrittenSays Say f e r
+    says-so says n b ts g = rw (written (text ss) d e r (a .answer) (a .buffer) n b) (says ts g)
 
-pub listed-sites : (f d : List ℕ) {e : List ℕ} {r : Written} (ss : List Site) → contents f ≡ good ss → Answered (listing (map rowOf ss)) d e r → ListClauses f d e r
-unfolding listAnswer listHeld listNumbers
-listed-sites f d ss h a = (rw h (a .answer), (rw h (a .buffer), (rw h (a .numbers), (list-enough f d ss h a, written3 f d ss h a))))
+    pub filed-sites : TextSays Say f (text ss) → FileClauses e r
+    unfolding fileAnswer fileHeld fileNumbers
+    filed-sites says = (rw h (a .answer), (rw h (a .buffer), (rw h (a .numbers), (enough, says-so says))))
 
-pub listed-fault : (f d : List ℕ) {rule : Rule} {at : ℕ} → contents f ≡ fault rule at → ListClauses f d d (Refused rule at)
-unfolding listAnswer listHeld listNumbers writtenNumbers
-listed-fault f d h = (rw h, (rw h, (rw h, (λ ss g. not-good (sym h ∙ g), λ n b. let z : _≡_ {A = ℕ} 0 1 = cc in absurd (omega arith)))))
+  pub filed-fault : {rule : Rule} {at : ℕ} → contents f ≡ fault rule at → FileClauses d (Refused rule at)
+  unfolding fileAnswer fileHeld fileNumbers writtenNumbers
+  filed-fault h = (rw h, (rw h, (rw h, (λ ss g. not-good (sym h ∙ g), λ n b. let z : _≡_ {A = ℕ} 0 1 = cc in absurd (omega arith)))))
 
--- no listing is longer than the longest
-pub list-count : (f d : List ℕ) {n : ℕ} → listAnswer (contents f) d ≡ Count n → ListRoomEnough f d (Count n) → n ≤ mostText
-unfolding listAnswer
-list-count f d {n} is most = by-contents (contents f) refl is
-  where
-    by-contents : (c : Contents Site) → contents f ≡ c → listAnswer c d ≡ Count n → n ≤ mostText
-    by-contents (good ss) q e = omega (arith, count-is _ _ e, most ss q .bounded)
-    by-contents (fault k i) q e = let z : _≡_ {A = ℕ} 0 1 = cc in absurd (omega arith)
+  -- no text is longer than the longest
+  pub file-count : {n : ℕ} → fileAnswer text (contents f) d ≡ Count n → FileRoom most text (contents f) d (Count n) → n ≤ most
+  unfolding fileAnswer
+  file-count {n} is room = by-contents (contents f) refl is
+    where
+      by-contents : (c : Contents Site) → contents f ≡ c → fileAnswer text c d ≡ Count n → n ≤ most
+      by-contents (good ss) q e = omega (arith, count-is _ _ e, room ss q .bounded)
+      by-contents (fault k i) q e = let z : _≡_ {A = ℕ} 0 1 = cc in absurd (omega arith)
 
--- no refusal lies past 500 records of the greatest length
-pub list-fault-near : (f d : List ℕ) {rule : Rule} {at : ℕ} → listAnswer (contents f) d ≡ Refused rule at → at ≤ mostRecord * mostRecords
-unfolding listAnswer
-list-fault-near f d {rule} {at} e = by-contents (contents f) refl e
-  where
-    by-contents : (c : Contents Site) → contents f ≡ c → listAnswer c d ≡ Refused rule at → at ≤ mostRecord * mostRecords
-    by-contents (good ss) q e = omega (arith, refused-at-0 _ _ e)
-    by-contents (fault k i) q e = let same : i ≡ at = cc in omega (arith, sites-fault-near f q)
+  -- no refusal lies past 500 records of the greatest length
+  pub file-fault-near : {rule : Rule} {at : ℕ} → fileAnswer text (contents f) d ≡ Refused rule at → at ≤ mostRecord * mostRecords
+  unfolding fileAnswer
+  file-fault-near {rule} {at} e = by-contents (contents f) refl e
+    where
+      by-contents : (c : Contents Site) → contents f ≡ c → fileAnswer text c d ≡ Refused rule at → at ≤ mostRecord * mostRecords
+      by-contents (good ss) q e = omega (arith, refused-at-0 _ _ e)
+      by-contents (fault k i) q e = let same : i ≡ at = cc in omega (arith, sites-fault-near f q)
+
+-- the listing
+listing-said : (f : List ℕ) (ss : List Site) → contents f ≡ good ss → TextSays LinesSay f (listingOf ss)
+listing-said f ss h ts g = let same : ss ≡ ts = cc in rw same (listing-says f ts g)
+
+pub listed-sites : (f d : List ℕ) {e : List ℕ} {r : Written} (ss : List Site) → contents f ≡ good ss → Answered (listingOf ss) d e r → FileClauses mostText listingOf LinesSay f d e r
+listed-sites f d ss h a = filed-sites mostText listingOf LinesSay f d ss h a (listing-said f ss h)
 
 -- ---- the report
 
@@ -112,7 +123,7 @@ reported f d a w = clauses-then a w
 
 pub reported-sites : (f d : List ℕ) {e : List ℕ} {r : Written} (ss : List Site) → contents f ≡ good ss → Answered (listing (map rowOf ss)) d e r → Reported f d e r
 unfolding reportOf printed
-reported-sites f d ss h a = reported f d (rw h a) (written3 f d ss h a)
+reported-sites f d ss h a = reported f d (rw h a) (says-so mostText listingOf LinesSay f d ss h a (listing-said f ss h))
 
 pub reported-fault : (f d : List ℕ) {e : List ℕ} {r : Written} {rule : Rule} {at : ℕ} → contents f ≡ fault rule at → Clauses (refusal rule at) d e r (RoomEnough (refusal rule at) d r) → Reported f d e r
 unfolding reportOf printed

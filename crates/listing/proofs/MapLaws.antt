@@ -15,3 +15,7 @@ module _ {A B : Type 0} (f : A → B) where
   getD-map [] k d e h = absurd (omega arith)
   getD-map (x ∷ xs) zero d e h = refl
   getD-map (x ∷ xs) (suc k) d e h = getD-map xs k d e (omega arith)
+
+pub map-id : {A : Type 0} (xs : List A) → map (λ (x : A). x) xs ≡ xs
+map-id [] = refl
+map-id {A} (x ∷ xs) = ap (λ (l : List A). x ∷ l) (map-id xs)

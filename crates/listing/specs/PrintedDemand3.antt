@@ -22,13 +22,20 @@ pub record LinesSay (ss : List Site) (t : List ℕ) : Type 0 where
   pub nothing-behind : lineAt (length ss + 1) t ≡ []
   pub says : (k : ℕ) → k < length ss → Says (lastWord (lineAt (suc k) t)) (getD ss k blankSite)
 
--- demand 3 in a text t for the file f: where the checks let f pass, every site's line says whether its balances close
-abbrev pub Demand3 : List ℕ → List ℕ → Type 0
-Demand3 f t = (ss : List Site) → contents f ≡ good ss → LinesSay ss t
+-- where the checks let the file f pass, the text t says `Say` of its sites
+abbrev pub TextSays : (List Site → List ℕ → Type 0) → List ℕ → List ℕ → Type 0
+TextSays Say f t = (ss : List Site) → contents f ≡ good ss → Say ss t
 
 -- the same of the text that a call has written into a buffer
+abbrev pub WrittenSays : (List Site → List ℕ → Type 0) → List ℕ → List ℕ → Written → Type 0
+WrittenSays Say f out r = (n : ℕ) → r ≡ Count n → TextSays Say f (take n out)
+
+-- demand 3 in a listing t of the file f, and in a listing that was written: every site's line says whether its balances close
+abbrev pub Demand3 : List ℕ → List ℕ → Type 0
+Demand3 f t = TextSays LinesSay f t
+
 abbrev pub WrittenDemand3 : List ℕ → List ℕ → Written → Type 0
-WrittenDemand3 f out r = (n : ℕ) → r ≡ Count n → Demand3 f (take n out)
+WrittenDemand3 f out r = WrittenSays LinesSay f out r
 
 -- Less deposition is never worse: record k of a file f and record l of a file g, files that the checks let pass; the two records are one site,
 -- the second with as much or less sulphur and as much or less nitrogen. Where the last word of the first one's line in the text x is `within`,

@@ -2,7 +2,7 @@
 use Prim.Native.Nat.{ℕ, zero, suc, _+_, _<_}
 use mathlib.Core.Path.{_≡_, refl, ap, _∙_}
 use mathlib.Core.Bool.{true}
-use mathlib.Core.List.{List, [], _∷_, _++_, append-assoc, map}
+use mathlib.Core.List.{List, [], _∷_, _++_, map}
 use native.Mathlib.Omega.{arith}
 use native.Mathlib.Numerals.{add-one}
 use lib.ListN.{length, getD}
@@ -19,9 +19,9 @@ use Rattle.text.specs.Listing.{headText, header, listing}
 use Rattle.text.specs.Words.{split, lastWord, lineAt, free}
 use Rattle.text.specs.Marks.{Plain, Marked}
 use Rattle.text.proofs.TextAnswers.{Answered, Clauses, clauses-then, written}
-use Rattle.text.proofs.WordLaws.{split-at, split-free, free-cons, free-append, free-decimal, free-each, lastWord-spaced}
+use Rattle.text.proofs.WordLaws.{split-at, split-free, split-each, free-cons, free-append, free-decimal, free-each, lastWord-spaced}
 
-free-mark : (v : Verdict) → (free 10 (verdictWord v) ≡ true) × (free 32 (verdictWord v) ≡ true)
+pub free-mark : (v : Verdict) → (free 10 (verdictWord v) ≡ true) × (free 32 (verdictWord v) ≡ true)
 unfolding verdictWord free
 free-mark Within = (refl, refl)
 free-mark (Over g a n) = (refl, refl)
@@ -43,12 +43,8 @@ free-body r h =
 -- ---- the lines of a listing
 
 split-lines : (rs : List Row) → Plain rs → split 10 (each line rs) ≡ map body rs ++ ([] ∷ [])
-unfolding each line split
-split-lines [] h = refl
-split-lines (r ∷ rs) h =
-    let one : split 10 (body r) ≡ body r ∷ [] = split-free 10 (body r) (free-body r (h zero (omega arith))) in
-    let ih : split 10 (each line rs) ≡ map body rs ++ ([] ∷ []) = split-lines rs (λ k l. h (suc k) (omega arith)) in
-    ap (split 10) (append-assoc (body r) (10 ∷ []) (each line rs)) ∙ split-at 10 (body r) (each line rs) ∙ rw (one, ih)
+unfolding line
+split-lines rs h = split-each 10 body line (λ r. refl) rs blankRow (λ k l. free-body (getD rs k blankRow) (h k l))
 
 listing-head : (rs : List Row) → listing rs ≡ headText ++ 10 ∷ each line rs
 unfolding listing header headText

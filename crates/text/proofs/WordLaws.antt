@@ -2,11 +2,11 @@
 use Prim.Native.Nat.{ℕ, zero, suc, _+_, _/_, _%_, _≤_, _<_}
 use mathlib.Core.Path.{_≡_, refl, ap, _∙_}
 use mathlib.Core.Bool.{Bool, true, false}
-use mathlib.Core.List.{List, [], _∷_, _++_}
+use mathlib.Core.List.{List, [], _∷_, _++_, append-assoc, map}
 use native.Mathlib.Omega.{arith}
 use borrow.Author.Tests.{eq-eqb, ne-eqb, eqb-false, ltb-true, ltb-false}
 use lib.Dec.{eqb, ltb}
-use lib.ListN.{length}
+use lib.ListN.{length, getD}
 use Rattle.text.specs.Decimal.{dec, decimal}
 use Rattle.output.specs.Writing.{each}
 use Rattle.text.specs.Line.{spaced}
@@ -53,7 +53,7 @@ split-at b (x ∷ xs) ys = go (eqb x b) refl (split-at b xs ys)
     go true e ih = rw (split-true b x xs e, split-true b x (xs ++ b ∷ ys) e, ih)
     go false e ih = rw (split-false b x xs e, split-false b x (xs ++ b ∷ ys) e, ih, consTo-append x (split b xs) (split b ys) (split-pos b xs))
 
-free-false : (b x : ℕ) (xs : List ℕ) → free b (x ∷ xs) ≡ true → (eqb x b ≡ false) × (free b xs ≡ true)
+pub free-false : (b x : ℕ) (xs : List ℕ) → free b (x ∷ xs) ≡ true → (eqb x b ≡ false) × (free b xs ≡ true)
 unfolding free
 free-false b x xs h = go (eqb x b) refl
   where
@@ -65,6 +65,19 @@ pub split-free : (b : ℕ) (xs : List ℕ) → free b xs ≡ true → split b xs
 unfolding split consTo
 split-free b [] h = refl
 split-free b (x ∷ xs) h = split-false b x xs (free-false b x xs h .0) ∙ ap (consTo x) (split-free b xs (free-false b x xs h .1))
+
+-- texts that are each ended by a b, cut at each b: the texts, and nothing behind the last b
+module _ {A : Type 0} (b : ℕ) (f g : A → List ℕ) (end : (x : A) → g x ≡ f x ++ (b ∷ [])) where
+  pub split-each : (xs : List A) (d : A) → ((k : ℕ) → k < length xs → free b (f (getD xs k d)) ≡ true) → split b (each g xs) ≡ map f xs ++ ([] ∷ [])
+  unfolding each split
+  split-each [] d h = refl
+  split-each (x ∷ xs) d h =
+      let one : split b (f x) ≡ f x ∷ [] = split-free b (f x) (h zero (omega arith)) in
+      let ih : split b (each g xs) ≡ map f xs ++ ([] ∷ []) = split-each xs d (λ k l. h (suc k) (omega arith)) in
+      ap (λ (t : List ℕ). split b (t ++ each g xs)) (end x)
+      ∙ ap (split b) (append-assoc (f x) (b ∷ []) (each g xs))
+      ∙ split-at b (f x) (each g xs)
+      ∙ rw (one, ih)
 
 -- ---- free
 

@@ -12,7 +12,11 @@ use Rattle.text.specs.TextLengths.{mostText}
 abbrev pub textAnswer : List ℕ → List ℕ → Written
 textAnswer text d = writeAnswer (roomRule (length text) (length d)) (length text)
 
--- the text has at most mostText bytes, so where d has as many, 11 never comes
-pub record RoomEnough (text d : List ℕ) (r : Written) : Type 0 where
-  pub bounded : length text ≤ mostText
-  pub fits : mostText ≤ length d → r ≡ Count (length text)
+-- the text has at most `most` bytes, so where d has as many, 11 never comes
+pub record RoomWithin (most : ℕ) (text d : List ℕ) (r : Written) : Type 0 where
+  pub bounded : length text ≤ most
+  pub fits : most ≤ length d → r ≡ Count (length text)
+
+-- the same of a listing or a refusal's line
+abbrev pub RoomEnough : List ℕ → List ℕ → Written → Type 0
+RoomEnough text d r = RoomWithin mostText text d r

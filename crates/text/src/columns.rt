@@ -10,6 +10,7 @@ use crate::decimal::width;
 use judgement::Verdict;
 use judgement::region_number;
 
+// Those of a row: the loads, then region and exceedances, 0 0 0 where it is within.
 pub fn numbers(row: Row) -> [u64; 7]
     ensures { λ r. ⌜ r ≡ numbersOf row ⌝ }
 {

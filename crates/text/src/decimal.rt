@@ -1,9 +1,9 @@
 // Numbers in decimal.
 ghost use mathlib.Core.Path.{_≡_};
-ghost use Prim.Native.Nat.{_+_, _≤_};
+ghost use Prim.Native.Nat.{_≤_};
 ghost use lib.ListN.{length};
 ghost use Rattle.text.specs.Decimal.{decimal};
-ghost use Rattle.output.specs.Writing.{Wrote};
+ghost use Rattle.output.specs.Writing.{WroteIf};
 
 // How many decimal digits n has: `bound` is 10 to the power k.
 pub fn width(n: u64) -> usize
@@ -24,12 +24,18 @@ pub fn width(n: u64) -> usize
     20
 }
 
-// Writes n at index at, the last digit first, and returns the index after it.
+// Writes n at index at, the last digit first, and returns the index after it; where it does not fit, nothing is written.
 pub fn put_decimal(out: &mut [u8], at: usize, n: u64) -> usize
-    requires { ⌜ at + length (decimal n) ≤ length (now out) ⌝ }
-    ensures { λ r. ⌜ Wrote (now (out .entry)) at (decimal n) (now (out .exit)) r ⌝ }
+    ensures { λ r. ⌜ WroteIf (now (out .entry)) at (decimal n) (now (out .exit)) r ⌝ }
 {
-    let end = at + width(n);
+    let digits = width(n);
+    if out.len() < at {
+        return at;
+    }
+    if out.len() - at < digits {
+        return at;
+    }
+    let end = at + digits;
     let mut i = end;
     let mut rest = n;
     while rest >= 10 {

@@ -5,7 +5,10 @@ mod line;
 mod listing;
 mod refusal;
 
+pub use columns::numbers;
+pub use decimal::put_decimal;
 use judgement::Verdict;
+pub use line::name_len;
 pub use listing::put_listing;
 use loads::Loads;
 pub use refusal::put_refusal;

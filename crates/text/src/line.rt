@@ -14,7 +14,7 @@ use judgement::Verdict;
 use output::put_bytes;
 
 // The length of a row's name: there are no bytes past the eighth.
-fn name_len(row: Row) -> usize
+pub fn name_len(row: Row) -> usize
     ensures { λ r. ⌜ (r ≤ 8) × (take r (row .name) ≡ nameText row) × (r ≡ length (nameText row)) ⌝ }
 {
     if row.name_len < 8 {

@@ -1,6 +1,9 @@
 use denote.Ref.{now}
 use Rattle.record.specs.File.{contents}
-use Rattle.listing.proofs.ListLaws.{found-sites, found-fault, by-sites, listed-sites, listed-fault}
+use Rattle.text.specs.TextLengths.{mostText}
+use Rattle.listing.specs.Reports.{listingOf}
+use Rattle.listing.specs.PrintedDemand3.{LinesSay}
+use Rattle.listing.proofs.ListLaws.{found-sites, found-fault, by-sites, listed-sites, filed-fault}
 use borrow.Author.Needs.{needs}
 use Rattle.listing.proofs.listing.list.Statement.{statement}
 use Rattle.listing.proofs.listing.list.Tie as tie
@@ -22,7 +25,7 @@ returns c =
     let w = c .before .before .before in
     let s = w .before .before .before in
     let f = now (s .args .file) in
-    listed-fault f (now (s .args .out)) (found-fault (contents f) (w .walk-file .ensures .0) (c .before .o .given .1))
+    filed-fault mostText listingOf LinesSay f (now (s .args .out)) (found-fault (contents f) (w .walk-file .ensures .0) (c .before .o .given .1))
 
 same-length : tie.Need-same-length
 same-length c = search needs

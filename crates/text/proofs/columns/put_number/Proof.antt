@@ -14,8 +14,7 @@ add-put-decimal : tie.Need-add-put-decimal
 add-put-decimal c = search needs
 
 put-decimal-requires : tie.Need-put-decimal-requires
-unfolding column spaced
-put-decimal-requires c κs = simp length-set (omega arith)
+put-decimal-requires c κs = search needs
 
 same-length : tie.Need-same-length
 same-length c = omega (arith, simp length-set at (c .before .before .put-decimal .kept .0))
@@ -24,7 +23,7 @@ returns : tie.Need-returns
 unfolding column spaced
 returns c =
     let args = c .before .before .before .before .before .args in
-    then (stored (args .out .now) (args .at) 32) (c .before .before .put-decimal .ensures)
+    then (stored (args .out .now) (args .at) 32) (c .before .before .put-decimal .ensures .fits (simp length-set (omega arith)))
 
 pub put-number-spec : {M : Type 1} → statement M
 put-number-spec =

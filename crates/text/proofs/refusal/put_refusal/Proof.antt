@@ -4,6 +4,7 @@ use mathlib.Core.Path.{_≡_}
 use native.Mathlib.Omega.{arith}
 use denote.Ref.{now}
 use lib.ListN.{length, length-set}
+use Rattle.text.specs.Decimal.{decimal}
 use Rattle.text.specs.RefusalLine.{refusedLine, refusedWord, atWord}
 use Rattle.output.proofs.WritingLaws.{then, stored}
 use Rattle.text.proofs.LineLaws.{length-refusal, refusal-is}
@@ -45,7 +46,7 @@ first : (c : tie.After-put-bytes) → c .put-bytes .result ≡ 8
 first c = c .put-bytes .ensures .fits (omega arith) .next
 
 put-decimal-requires : tie.Need-put-decimal-requires
-put-decimal-requires c κs = omega (arith, first (c .before .before .before))
+put-decimal-requires c κs = search needs
 
 slice-aggregate-put-bytes-2 : tie.Need-slice-aggregate-put-bytes-2
 slice-aggregate-put-bytes-2 c = search needs
@@ -63,18 +64,36 @@ number-put c = c .before .before .before .before .before
 abbrev at-put : tie.After-put-decimal2 → tie.After-put-bytes2
 at-put c = c .before .before .before .before
 
+abbrev numbered : tie.After-put-bytes → tie.After-rule-number
+numbered c = c .before .before .before .before .before .before
+
+-- there was room for the number
+number-fits : (c : tie.After-put-decimal)
+    → refused-put c .put-bytes .result + length (decimal (numbered (refused-put c) .rule-number .result)) ≤ length (refused-put c .put-bytes .last .0)
+number-fits c = omega (arith, first (refused-put c))
+
+number-next : (c : tie.After-put-decimal) → c .put-decimal .result ≡ refused-put c .put-bytes .result + length (decimal (numbered (refused-put c) .rule-number .result))
+number-next c = c .put-decimal .ensures .fits (number-fits c) .next
+
 room : (c : tie.After-put-bytes2) → number-put c .put-decimal .result + 4 ≤ length (number-put c .put-decimal .last .0)
-room c = omega (arith, first (refused-put (number-put c)))
+room c = omega (arith, first (refused-put (number-put c)), number-next (number-put c))
 
 second : (c : tie.After-put-bytes2) → c .put-bytes2 .result ≡ number-put c .put-decimal .result + 4
 second c = c .put-bytes2 .ensures .fits (room c) .next
 
 put-decimal-requires-2 : tie.Need-put-decimal-requires-2
-put-decimal-requires-2 c κs = let at = c .before .before .before in omega (arith, first (refused-put (number-put at)), second at)
+put-decimal-requires-2 c κs = search needs
+
+-- and for the offset
+offset-fits : (c : tie.After-put-decimal2) → let b = refused-put (number-put (at-put c)) in
+    at-put c .put-bytes2 .result + length (decimal (numbered b .before .before .args .at)) ≤ length (at-put c .put-bytes2 .last .0)
+offset-fits c = let at = at-put c in omega (arith, first (refused-put (number-put at)), number-next (number-put at), second at)
 
 -- the line's end fits
 fits : (c : tie.After-put-decimal2) → c .put-decimal2 .result < length (c .put-decimal2 .last .0)
-fits c = let at = at-put c in omega (arith, first (refused-put (number-put at)), second at)
+fits c =
+    let at = at-put c in
+    omega (arith, first (refused-put (number-put at)), number-next (number-put at), second at, c .put-decimal2 .ensures .fits (offset-fits c) .next)
 
 slice-write-out : tie.Need-slice-write-out
 slice-write-out c = fits (c .before .before)
@@ -92,12 +111,12 @@ returns-2 c =
     let b3 = at-put d4 in
     let d2 = number-put b3 in
     let b1 = refused-put d2 in
-    let n = b1 .before .before .before .before .before .before in
+    let n = numbered b1 in
     let s = n .before .before in
     let text = refusedLine (n .rule-number .result) (s .args .at) in
     rw (← refusal-is (s .args .rule) (s .args .at) (n .rule-number .ensures))
     (as-clauses (text-printed text
-    (then (then (then (then (b1 .put-bytes .ensures .fits (omega arith)) (d2 .put-decimal .ensures)) (b3 .put-bytes2 .ensures .fits (room b3))) (d4 .put-decimal2 .ensures))
+    (then (then (then (then (b1 .put-bytes .ensures .fits (omega arith)) (d2 .put-decimal .ensures .fits (number-fits d2))) (b3 .put-bytes2 .ensures .fits (room b3))) (d4 .put-decimal2 .ensures .fits (offset-fits d4)))
     (stored (d4 .put-decimal2 .last .0) (d4 .put-decimal2 .result) 10))
     (omega (arith, b1 .before .before .before, length-refusal (n .rule-number .result) (s .args .at)))
     (omega (arith, b1 .before .before .before, length-refusal (n .rule-number .result) (s .args .at)))))

@@ -1,0 +1,6 @@
+pub mod PageLineLaws
+pub mod ColumnLaws
+pub mod PageLaws
+pub mod SiteColumns
+pub mod ExamplePage
+pub mod PagesLaws

@@ -1,0 +1,21 @@
+use native.Mathlib.Omega.{arith}
+use borrow.Author.Needs.{needs}
+use Rattle.pages.proofs.PageLineLaws.{head-bytes}
+use Rattle.pages.proofs.line.put_header.Statement.{statement}
+use Rattle.pages.proofs.line.put_header.Tie as tie
+
+slice-aggregate-put-bytes : tie.Need-slice-aggregate-put-bytes
+slice-aggregate-put-bytes c = search needs
+
+put-bytes-requires : tie.Need-put-bytes-requires
+put-bytes-requires c κs = search needs
+
+same-length : tie.Need-same-length
+same-length c = search needs
+
+returns : tie.Need-returns
+returns c = rw head-bytes (c .before .before .put-bytes .ensures .fits (omega arith))
+
+pub put-header-spec : {M : Type 1} → statement M
+put-header-spec =
+    tie.close (tie.spec slice-aggregate-put-bytes put-bytes-requires same-length returns)

@@ -1,0 +1,57 @@
+use native.Mathlib.Omega.{arith}
+use borrow.Author.Needs.{needs}
+use Rattle.judgement.specs.Verdicts.{verdictWord}
+use Rattle.pages.specs.PageLine.{rightIn}
+use Rattle.pages.proofs.line.put_mark.Statement.{statement}
+use Rattle.pages.proofs.line.put_mark.Tie as tie
+
+enum-told : tie.Need-enum-told
+enum-told c = search needs
+
+slice-aggregate-put-bytes : tie.Need-slice-aggregate-put-bytes
+slice-aggregate-put-bytes c = search needs
+
+put-bytes-requires : tie.Need-put-bytes-requires
+put-bytes-requires c κs = search needs
+
+enum-told-2 : tie.Need-enum-told-2
+enum-told-2 c = search needs
+
+slice-aggregate-put-bytes-2 : tie.Need-slice-aggregate-put-bytes-2
+slice-aggregate-put-bytes-2 c = search needs
+
+put-bytes-requires-2 : tie.Need-put-bytes-requires-2
+put-bytes-requires-2 c κs = search needs
+
+same-length : tie.Need-same-length
+same-length c = search needs
+
+returns : tie.Need-returns
+unfolding verdictWord rightIn
+returns c =
+    let w = c .before .before .put-bytes .ensures .fits (omega arith) in
+    rw (c .before .before .before .before .before .enum-told .given .1) (w, w .next)
+
+same-length-2 : tie.Need-same-length-2
+same-length-2 c = search needs
+
+returns-2 : tie.Need-returns-2
+unfolding verdictWord rightIn
+returns-2 c =
+    let w = c .before .before .put-bytes2 .ensures .fits (omega arith) in
+    rw (c .before .before .before .before .before .enum-told2 .given .1) (w, w .next)
+
+pub put-mark-spec : {M : Type 1} → statement M
+put-mark-spec =
+    tie.close
+    (tie.spec
+    enum-told
+    slice-aggregate-put-bytes
+    put-bytes-requires
+    enum-told-2
+    slice-aggregate-put-bytes-2
+    put-bytes-requires-2
+    same-length
+    returns
+    same-length-2
+    returns-2)

@@ -1,0 +1,3 @@
+pub mod PageLine
+pub mod Pages
+pub mod PagesDemand3

@@ -1,0 +1,84 @@
+-- What stands on the pages, and demand 3 there.
+use Prim.Native.Nat.{ℕ, _+_, _*_, _/_, _%_, _≤_, _<_}
+use mathlib.Core.Bool.{true, false}
+use mathlib.Core.Path.{_≡_}
+use mathlib.Core.List.{List, [], _∷_, map}
+use lib.Dec.{eqb}
+use lib.ListN.{length, getD, take, drop}
+use Rattle.site.specs.declared.Site.{Site}
+use Rattle.loads.specs.SiteTerms.{termsOf}
+use Rattle.loads.specs.CriticalLoads.{maxS, minN, maxN, nutN}
+use Rattle.judgement.specs.Regions.{regionNumber}
+use Rattle.judgement.specs.Verdicts.{region, acidExceedance, nutrientExceedance, verdict, verdictWord}
+use Rattle.judgement.specs.Balance.{Says}
+use Rattle.judgement.specs.Less.{Less, Stays}
+use Rattle.field.specs.Field.{blankSite}
+use Rattle.record.specs.Result.{good}
+use Rattle.record.specs.File.{contents}
+use Rattle.text.specs.Decimal.{decimal}
+use Rattle.text.specs.Words.{split, lineAt}
+use Rattle.pages.specs.PageLine.{headLine}
+use Rattle.pages.specs.Pages.{pageCount}
+
+-- a text cut into pieces of the widths ws
+unfoldable pub cut : List ℕ → List ℕ → List (List ℕ)
+cut [] l = []
+cut (w ∷ ws) l = take w l ∷ cut ws (drop w l)
+
+-- a text without its spaces
+unfoldable pub unspaced : List ℕ → List ℕ
+unspaced [] = []
+unspaced (x ∷ xs) = let r = unspaced xs in elim (eqb x 32) [ true ↦ r | false ↦ x ∷ r ]
+
+-- name, the four loads, region, the two exceedances, verdict
+abbrev pub columnWidths : List ℕ
+columnWidths = 8 ∷ 8 ∷ 8 ∷ 8 ∷ 8 ∷ 2 ∷ 7 ∷ 7 ∷ 7 ∷ []
+
+-- the nine columns of a line, their spaces dropped
+unfoldable pub columnsOf : List ℕ → List (List ℕ)
+columnsOf l = map unspaced (cut columnWidths l)
+
+-- the verdict's
+abbrev pub verdictColumn : List ℕ → List ℕ
+verdictColumn l = getD (columnsOf l) 8 []
+
+-- what they show of a site, each value whole
+unfoldable pub shown : Site → List (List ℕ)
+shown s =
+    let t = termsOf s in
+    let S = s .sulphur in
+    let N = s .nitrogen in
+    take (s .«name_len») (s .name)
+    ∷ decimal (maxS t) ∷ decimal (minN t) ∷ decimal (maxN t) ∷ decimal (nutN t)
+    ∷ decimal (regionNumber (region t S N)) ∷ decimal (acidExceedance t S N) ∷ decimal (nutrientExceedance t N)
+    ∷ verdictWord (verdict t S N)
+    ∷ []
+
+-- line l of page p of a text, each counted from 0; before the last page every page has 60 lines
+abbrev pub onPage : (p l : ℕ) → List ℕ → List ℕ
+onPage p l t = lineAt (60 * p + l) t
+
+-- the line of site k, which stands on page k / 59, line k mod 59 + 1; the first site is site 0
+abbrev pub siteLine : ℕ → List ℕ → List ℕ
+siteLine k t = onPage (k / 59) (k % 59 + 1) t
+
+-- On the pages t of the sites ss the last page has 1 to 59 sites. There is a line for each page's header and for each site, and nothing behind the last 0A;
+-- a line has 64 characters, of which the last is a space. The columns of a site's line show its values, and that of the verdict says whether its
+-- balances close.
+pub record PagesSay (ss : List Site) (t : List ℕ) : Type 0 where
+  pub last-page : (length ss ≤ 59 * pageCount (length ss)) × (59 * pageCount (length ss) < length ss + 59)
+  pub lines : length (split 10 t) ≡ length ss + pageCount (length ss) + 1
+  pub nothing-behind : lineAt (length ss + pageCount (length ss)) t ≡ []
+  pub wide : (i : ℕ) → i < length ss + pageCount (length ss) → length (lineAt i t) ≡ 64
+  pub space : (i : ℕ) → i < length ss + pageCount (length ss) → getD (lineAt i t) 63 0 ≡ 32
+  pub header : (p : ℕ) → p < pageCount (length ss) → onPage p 0 t ≡ headLine
+  pub values : (k : ℕ) → k < length ss → columnsOf (siteLine k t) ≡ shown (getD ss k blankSite)
+  pub says : (k : ℕ) → k < length ss → Says (verdictColumn (siteLine k t)) (getD ss k blankSite)
+
+-- Less deposition is never worse, as in the listing (`PrintedNeverWorse`): the verdict's columns of site k of the file f, on the pages x, and of site l
+-- of the file g, on the pages y, where the second is the first with as much or less sulphur and as much or less nitrogen.
+abbrev pub PagesNeverWorse : (f x g y : List ℕ) → Type 0
+PagesNeverWorse f x g y =
+    (ss ts : List Site) → contents f ≡ good ss → contents g ≡ good ts → (k l : ℕ) → k < length ss → l < length ts
+    → Less (getD ss k blankSite) (getD ts l blankSite)
+    → Stays (verdictColumn (siteLine k x)) (verdictColumn (siteLine l y))

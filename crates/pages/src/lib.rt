@@ -1,0 +1,6 @@
+// The listing of a file as pages for the printer.
+mod column;
+mod line;
+mod paging;
+
+pub use paging::list_pages;
