@@ -1,9 +1,9 @@
 /*
  * Forest site instrument: critical loads, exceedances and verdict.
  *
- * A result is one number. Below 2^32 it is a count: of bytes for forest_list, forest_report and forest_rewrite, of numbers
- * for forest_loads and forest_judge, and 0 for forest_check. From 2^32 on it is a refusal: rule number * 2^32 + offset.
- * A refusal alters no byte of the lent buffer; a success alters the first `count` elements alone.
+ * A result is one number. Below 2^32 it is a count: of bytes for forest_list, forest_pages, forest_report and
+ * forest_rewrite, of numbers for forest_loads and forest_judge, and 0 for forest_check. From 2^32 on it is a refusal: rule
+ * number * 2^32 + offset. A refusal alters no byte of the lent buffer; a success alters the first `count` elements alone.
  *
  *   Refusal                                                                            Offset
  *    1  no bytes                                                                       0
@@ -62,6 +62,12 @@ extern "C" {
 /* The listing of a file of records. A buffer of FOREST_MOST_TEXT bytes is always long enough. Stack: 107 KiB. */
 uint64_t forest_list(const uint8_t *file, size_t file_len, uint8_t *out, size_t out_len);
 
+/* The listing as pages of 60 lines: a header and 59 sites, on the last page 1 to 59, and a short last page is not filled.
+ * Every line is 64 characters and then 0A (hexadecimal): the name left in 8; right the four loads in 8 each, the region in
+ * 2, the two exceedances in 7 each, the verdict in 7; one space. The buffer is for all pages together: one of
+ * FOREST_MOST_PAGES bytes is always long enough. Stack: 142 KiB. */
+uint64_t forest_pages(const uint8_t *file, size_t file_len, uint8_t *out, size_t out_len);
+
 /* What the program prints for a file: the listing, or the line `refused N at M`. 11 alone is a refusal here, and does not
  * come with a buffer of FOREST_MOST_TEXT bytes. Stack: 107 KiB. */
 uint64_t forest_report(const uint8_t *file, size_t file_len, uint8_t *out, size_t out_len);
@@ -80,8 +86,10 @@ uint64_t forest_loads(const uint8_t *site, size_t site_len, uint64_t *out, size_
  * Stack: 1 KiB. */
 uint64_t forest_judge(const uint8_t *site, size_t site_len, uint64_t *out, size_t out_len);
 
-/* No listing and no report is longer than the first, and no accepted record than the second. */
+/* No listing and no report is longer than the first, and no accepted record than the third. The second is the length of all
+ * pages of a file of 500 records. */
 #define FOREST_MOST_TEXT 81551
+#define FOREST_MOST_PAGES 33085
 #define FOREST_MOST_RECORD 258
 
 #ifdef __cplusplus

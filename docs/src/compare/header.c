@@ -18,8 +18,9 @@ static const uint8_t file[156] = {
 };
 enum { RECORD = 78, SITE = 50, ROOM = 200, SPARE = 0xA5 };
 
-/* The longest listing and record that document 01 lets be are within what the header gives. */
+/* The longest listing and record that document 01 lets be are within what the header gives; 500 sites are on 9 pages. */
 _Static_assert(FOREST_MOST_TEXT >= 51 + 500 * (8 + 7 * 8 + 7 + 1) && FOREST_MOST_RECORD >= 96, "forest.h: too short");
+_Static_assert(FOREST_MOST_PAGES == (9 + 500) * (64 + 1), "forest.h: all pages");
 
 static const uint8_t site[SITE] = {
     'A', '1', 0, 0, 0, 0, 0, 0, 2, 1, 10, 65, 50, 1, 0, 200, 0, 100, 0x07, 0xD0, 0, 0, 0, 0, 0, 0, 0, 0, 0, 0, 0, 0, 1,
@@ -29,6 +30,10 @@ static const uint8_t site[SITE] = {
 static const char listing[] = "id maxS minN maxN nutN region acidEx nutEx verdict\n"
                               "A1 735 205 1021 249 2 221 451 over\n"
                               "B2 735 205 1021 249 0 0 0 within\n";
+
+static const char page[] = "id          maxS    minN    maxN    nutNre acidEx  nutExverdict \n"
+                           "A1           735     205    1021     249 2    221    451   over \n"
+                           "B2           735     205    1021     249 0      0      0 within \n";
 
 static unsigned passed, failed;
 
@@ -73,13 +78,18 @@ static void expect_numbers(const char *what, uint64_t answer, uint64_t expected,
 
 int main(void) {
     static const uint64_t judged[8] = {735, 205, 1021, 249, 2, 221, 451, 1};
-    const size_t length = sizeof listing - 1;
+    const size_t length = sizeof listing - 1, page_length = sizeof page - 1;
     lend();
 
     expect_text("a listing", forest_list(file, sizeof file, text, length), length, listing, length);
     expect_text("a listing that does not fit", forest_list(file, sizeof file, text, length - 1), refusal(11, 0), "", 0);
     expect_text("a listing of a record cut", forest_list(file, sizeof file - 1, text, ROOM), refusal(2, RECORD), "", 0);
     expect_text("a listing of nothing", forest_list(NULL, 0, NULL, 0), refusal(1, 0), "", 0);
+
+    expect_text("a page", forest_pages(file, sizeof file, text, page_length), page_length, page, page_length);
+    expect_text("a page that does not fit", forest_pages(file, sizeof file, text, page_length - 1), refusal(11, 0), "", 0);
+    expect_text("a page of a record cut", forest_pages(file, sizeof file - 1, text, ROOM), refusal(2, RECORD), "", 0);
+    expect_text("a page of nothing", forest_pages(NULL, 0, NULL, 0), refusal(1, 0), "", 0);
 
     expect_text("a report", forest_report(file, sizeof file, text, length), length, listing, length);
     expect_text("a report of a record cut", forest_report(file, sizeof file - 1, text, ROOM), 16, "refused 2 at 78\n", 16);

@@ -40,6 +40,7 @@ static uint8_t *bytes_out(void) { return in.room ? text : NULL; }
 static uint64_t *numbers_out(void) { return in.room ? numbers : NULL; }
 
 static void list(void) { forest_list(in.bytes, in.length, bytes_out(), in.room); }
+static void pages(void) { forest_pages(in.bytes, in.length, bytes_out(), in.room); }
 static void report(void) { forest_report(in.bytes, in.length, bytes_out(), in.room); }
 static void rewrite(void) { forest_rewrite(in.bytes, in.length, bytes_out(), in.room); }
 static void check(void) { forest_check(in.bytes, in.length); }
@@ -78,6 +79,7 @@ int main(void) {
     for (size_t at = 0; at < FULL; at += RECORD)
         memcpy(file + at, record, RECORD);
     measure("forest_list", list, files);
+    measure("forest_pages", pages, files);
     measure("forest_report", report, files);
     measure("forest_rewrite", rewrite, records);
     measure("forest_check", check, sites);

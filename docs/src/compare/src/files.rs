@@ -231,7 +231,8 @@ pub fn file(random: &mut Random) -> Vec<u8> {
             random.bytes(length)
         }
         8 => long_file(random),
-        9..=28 => {
+        9 => some_pages(random),
+        10..=28 => {
             let file = good_records(random, count);
             file[..random.below(file.len())].to_vec()
         }
@@ -278,6 +279,16 @@ pub fn long_file(random: &mut Random) -> Vec<u8> {
     file
 }
 
+/// A file of one to three pages, sometimes with a damaged record at its end.
+fn some_pages(random: &mut Random) -> Vec<u8> {
+    let records = random.between(50, 130) as usize;
+    let mut file = good_records(random, records);
+    if random.one_in(4) {
+        file.extend(damaged_record(random));
+    }
+    file
+}
+
 /// Files at the borders of 500 records and of the program's buffers, and longer ones.
 pub fn border_files(random: &mut Random) -> Vec<Vec<u8>> {
     // Two values of 255 bytes: a whole record's fields with bytes after them, and a name too long.
@@ -301,6 +312,20 @@ pub fn border_files(random: &mut Random) -> Vec<Vec<u8>> {
         vec![0; 129_001],
         vec![0x52; 400_000],
     ]
+}
+
+/// As many records as fill 1, 2 or 8 pages, and one more; one fewer than fill the first; one; and the most.
+pub const PAGE_BORDERS: [usize; 9] = [1, 58, 59, 60, 118, 119, 472, 473, 500];
+
+/// Files of so many records, and files with a fault after one page and after two.
+pub fn page_border_files(random: &mut Random) -> Vec<Vec<u8>> {
+    let mut files: Vec<_> = PAGE_BORDERS
+        .iter()
+        .map(|&count| good_records(random, count))
+        .collect();
+    files.push([&longest_records(random, 59)[..], &[0x52]].concat());
+    files.push([longest_records(random, 118), outer(vec![0x01])].concat());
+    files
 }
 
 /// Valid records of 96 bytes each: a name of eight, a stand of four.

@@ -1,4 +1,4 @@
-//! The six calls of `docs/forest.h`, by the static library and by the independent implementation.
+//! The seven calls of `docs/forest.h`, by the static library and by the independent implementation.
 
 use forest::{Refusal, Site, Verdict};
 
@@ -15,6 +15,14 @@ pub const LIST: Call<u8> = Call {
         c::forest_list(file.as_ptr(), file.len(), out.as_mut_ptr(), out.len())
     },
     reference: |file, out| result(forest::list(file, out)),
+};
+
+pub const PAGES: Call<u8> = Call {
+    name: "forest_pages",
+    library: |file, out| unsafe {
+        c::forest_pages(file.as_ptr(), file.len(), out.as_mut_ptr(), out.len())
+    },
+    reference: |file, out| result(forest::pages(file, out)),
 };
 
 pub const REPORT: Call<u8> = Call {
@@ -61,26 +69,8 @@ pub const JUDGE: Call<u64> = Call {
     },
     reference: |site, out| match Site::from_bytes(site).and_then(|site| forest::judge(&site)) {
         Ok(judgement) => {
-            let loads = judgement.loads;
-            let [region, acid, nutrient, mark] = match judgement.verdict {
-                Verdict::Within => [0, 0, 0, 0],
-                Verdict::Over {
-                    region,
-                    acid,
-                    nutrient,
-                } => [region, acid, nutrient, 1],
-            };
-            let numbers = [
-                loads.max_s,
-                loads.min_n,
-                loads.max_n,
-                loads.nut_n,
-                region,
-                acid,
-                nutrient,
-                mark,
-            ];
-            enter(&numbers, out)
+            let mark = i64::from(judgement.verdict != Verdict::Within);
+            enter(&[&judgement.numbers()[..], &[mark]].concat(), out)
         }
         Err(refusal) => refused(refusal),
     },
@@ -89,6 +79,7 @@ pub const JUDGE: Call<u64> = Call {
 mod c {
     extern "C" {
         pub fn forest_list(file: *const u8, file_len: usize, out: *mut u8, out_len: usize) -> u64;
+        pub fn forest_pages(file: *const u8, file_len: usize, out: *mut u8, out_len: usize) -> u64;
         pub fn forest_report(file: *const u8, file_len: usize, out: *mut u8, out_len: usize)
             -> u64;
         pub fn forest_rewrite(

@@ -19,6 +19,38 @@ pub struct Judgement {
     pub verdict: Verdict,
 }
 
+impl Judgement {
+    /// The numbers of a line: the four loads, region, acid and nutrient exceedance, the last three 0 where it is within.
+    pub fn numbers(&self) -> [i64; 7] {
+        let loads = &self.loads;
+        let [region, acid, nutrient] = match self.verdict {
+            Verdict::Within => [0, 0, 0],
+            Verdict::Over {
+                region,
+                acid,
+                nutrient,
+            } => [region, acid, nutrient],
+        };
+        [
+            loads.max_s,
+            loads.min_n,
+            loads.max_n,
+            loads.nut_n,
+            region,
+            acid,
+            nutrient,
+        ]
+    }
+
+    /// The last word of a line.
+    pub(crate) fn mark(&self) -> &'static str {
+        match self.verdict {
+            Verdict::Within => "within",
+            Verdict::Over { .. } => "over",
+        }
+    }
+}
+
 /// Loads and verdict of a site value, once it passes the checks.
 pub fn judge(site: &Site) -> Result<Judgement, Refusal> {
     check(site)?;

@@ -1,9 +1,10 @@
-//! Critical loads, exceedances and verdicts of forest sites, as document 01 states them.
+//! Critical loads, exceedances and verdicts of forest sites, as document 01 states them, and the pages of document 02.
 //!
 //! Numbers are `i64` throughout: the greatest product, Q × K × h³, is 3.75 × 10¹⁸.
 
 mod judgement;
 mod listing;
+mod pages;
 mod record;
 mod refusal;
 mod site;
@@ -11,6 +12,7 @@ mod terms;
 
 pub use judgement::{judge, Judgement, Verdict};
 pub use listing::{list, report};
+pub use pages::pages;
 pub use record::{read_record, rewrite, write_record};
 pub use refusal::{Refusal, Rule};
 pub use site::{check, Entry, Site};

@@ -1,9 +1,9 @@
-use crate::judgement::{judge_checked, Judgement, Verdict};
+use crate::judgement::{judge_checked, Judgement};
 use crate::record::each_record;
 use crate::refusal::{lend, Refusal};
 
-const MOST_RECORDS: usize = 500;
-const HEADER: &[u8] = b"id maxS minN maxN nutN region acidEx nutEx verdict\n";
+pub(crate) const MOST_RECORDS: usize = 500;
+pub(crate) const HEADER: &str = "id maxS minN maxN nutN region acidEx nutEx verdict";
 
 /// Writes the listing of a file of records.
 pub fn list(file: &[u8], out: &mut [u8]) -> Result<usize, Refusal> {
@@ -19,8 +19,9 @@ pub fn report(file: &[u8], out: &mut [u8]) -> Result<usize, Refusal> {
 }
 
 fn listing(file: &[u8]) -> Result<Vec<u8>, Refusal> {
-    let mut lines = Vec::with_capacity(HEADER.len() + file.len());
-    lines.extend_from_slice(HEADER);
+    let mut lines = Vec::with_capacity(HEADER.len() + 1 + file.len());
+    lines.extend_from_slice(HEADER.as_bytes());
+    lines.push(b'\n');
     each_record(file, MOST_RECORDS, |site| {
         push_line(&mut lines, site.name(), &judge_checked(site))
     })?;
@@ -28,23 +29,13 @@ fn listing(file: &[u8]) -> Result<Vec<u8>, Refusal> {
 }
 
 fn push_line(lines: &mut Vec<u8>, name: &[u8], judgement: &Judgement) {
-    let loads = &judgement.loads;
-    let (exceeded, mark): (_, &[u8]) = match judgement.verdict {
-        Verdict::Within => ([0, 0, 0], b" within\n"),
-        Verdict::Over {
-            region,
-            acid,
-            nutrient,
-        } => ([region, acid, nutrient], b" over\n"),
-    };
     lines.extend_from_slice(name);
-    for number in [loads.max_s, loads.min_n, loads.max_n, loads.nut_n] {
+    for number in judgement.numbers() {
         push_number(lines, number);
     }
-    for number in exceeded {
-        push_number(lines, number);
-    }
-    lines.extend_from_slice(mark);
+    lines.push(b' ');
+    lines.extend_from_slice(judgement.mark().as_bytes());
+    lines.push(b'\n');
 }
 
 /// A space, then the number in decimal.

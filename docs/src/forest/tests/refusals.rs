@@ -5,10 +5,14 @@ mod common;
 use common::{a1, a1_with, bytes, record, A1_FIELDS};
 use forest::{Refusal, Site};
 
-/// The refusal of a file, as its number and offset. The single-record read gives the same for a file of one record.
+/// The refusal of a file, as its number and offset. The pages give the same, and the single-record read for a file of one
+/// record.
 fn refused(file: &[u8]) -> (u8, usize) {
     let mut out = [0xEE; 4096];
     let Refusal { rule, offset } = forest::list(file, &mut out).unwrap_err();
+    assert_eq!(out, [0xEE; 4096]);
+    let pages = forest::pages(file, &mut out).unwrap_err();
+    assert_eq!(pages, Refusal { rule, offset });
     assert_eq!(out, [0xEE; 4096]);
     let single = forest::rewrite(file, &mut out).unwrap_err();
     assert_eq!(single, Refusal { rule, offset });

@@ -1,7 +1,7 @@
 //! One answer held against the other.
 
-use crate::tally::{Source, Tally};
-use compare::interface::{Call, CHECK, JUDGE, LIST, LOADS, REPORT, REWRITE};
+use crate::tally::{Source, Tally, PAGE};
+use compare::interface::{Call, CHECK, JUDGE, LIST, LOADS, PAGES, REPORT, REWRITE};
 use compare::random::Random;
 use forest::Site;
 use std::fmt::LowerHex;
@@ -10,7 +10,7 @@ use std::process::{Command, Stdio};
 use std::thread;
 use std::time::Duration;
 
-/// Longer than any listing and any record.
+/// Longer than any listing, all pages of any file, and any record.
 const ROOM: usize = 64_000;
 
 #[derive(Default)]
@@ -21,13 +21,24 @@ pub struct Comparison {
 }
 
 impl Comparison {
-    /// A file through `forest_list` and `forest_report`.
+    /// A file through `forest_list`, `forest_pages` and `forest_report`.
     pub fn file(&mut self, random: &mut Random, file: &[u8]) {
         let mut room = vec![0; ROOM];
         let full = (LIST.reference)(file, &mut room);
         for length in lengths(random, full) {
             let result = self.call(random, &LIST, file, length);
             self.tally.answer(Source::List, result);
+        }
+        let records = records(&room, full);
+        let full = (PAGES.reference)(file, &mut room);
+        // 60 records have more bytes than a page: a file that may take two gets a buffer of one too.
+        let one_page = (file.len() > PAGE).then_some(PAGE);
+        for length in lengths(random, full).into_iter().chain(one_page) {
+            let result = self.call(random, &PAGES, file, length);
+            self.tally.pages(records, length, result);
+            if result == full && full >> 32 == 0 {
+                self.tally.page_lines(&room[..full as usize]);
+            }
         }
         let full = (REPORT.reference)(file, &mut room);
         for length in lengths(random, full) {
@@ -163,6 +174,15 @@ impl Comparison {
         }
         self.failed += 1;
     }
+}
+
+/// How many records a file has by the lines of its listing; 0 where it is refused.
+fn records(room: &[u8], full: u64) -> usize {
+    if full >> 32 > 0 {
+        return 0;
+    }
+    let listing = &room[..full as usize];
+    listing.iter().filter(|&&byte| byte == b'\n').count() - 1
 }
 
 /// Lengths of the buffer to lend: the exact one, and one that is shorter, longer or empty.

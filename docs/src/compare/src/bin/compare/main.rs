@@ -63,6 +63,9 @@ fn main() -> ExitCode {
     for file in files::border_files(&mut random) {
         comparison.file(&mut random, &file);
     }
+    for file in files::page_border_files(&mut random) {
+        comparison.file(&mut random, &file);
+    }
     println!("{sites} site values, {records} single records, {files} files");
 
     if let Some(path) = &options.program {

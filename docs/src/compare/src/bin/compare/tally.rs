@@ -1,11 +1,13 @@
-//! How often each kind of answer and site occurred.
+//! How often each kind of answer, site and file occurred.
 
+use compare::files::PAGE_BORDERS;
 use forest::{Site, Terms};
 use std::ops::RangeInclusive;
 
 #[derive(Clone, Copy)]
 pub enum Source {
     List,
+    Pages,
     Report,
     Rewrite,
     Check,
@@ -15,8 +17,9 @@ pub enum Source {
 }
 
 /// The sources, and the rules that each can refuse by.
-const SOURCES: [(&str, RangeInclusive<usize>); 7] = [
+const SOURCES: [(&str, RangeInclusive<usize>); 8] = [
     ("list", 1..=11),
+    ("pages", 1..=11),
     ("report", 1..=11),
     ("rewrite", 1..=11),
     ("check", 7..=10),
@@ -40,16 +43,28 @@ const SPECIES: [&str; 9] = [
 
 const JUDGE: usize = 0;
 const LINES: usize = 1;
+const PAGE_LINES: usize = 2;
+
+/// The bytes of a full page.
+pub const PAGE: usize = 60 * 65;
+/// The bytes of a full page's records at most: a fault from here on is one after a page.
+const PAGE_RECORDS: usize = 59 * 96;
 
 #[derive(Default)]
 pub struct Tally {
     /// By source, then by rule; 0 stands for success.
-    answers: [[u64; 12]; 7],
-    /// By judge and by lines of listings, as the next three.
-    regions: [[u64; 5]; 2],
-    within: [u64; 2],
-    over: [u64; 2],
-    over_by_nutrient_alone: [u64; 2],
+    answers: [[u64; 12]; 8],
+    /// By judge, by lines of listings and by lines of pages, as the next three.
+    regions: [[u64; 5]; 3],
+    within: [u64; 3],
+    over: [u64; 3],
+    over_by_nutrient_alone: [u64; 3],
+    /// Successes for files of so many records, and for files of more than a page.
+    page_borders: [u64; PAGE_BORDERS.len()],
+    page_breaks: u64,
+    /// In a buffer with room for a page: 11, and a fault after a page.
+    room_for_a_page: u64,
+    fault_after_a_page: u64,
     parent_materials: [u64; 5],
     drainages: [u64; 6],
     species: [u64; 9],
@@ -76,6 +91,31 @@ impl Tally {
             let words: Vec<&str> = line.split(' ').collect();
             let region = words[5].parse().expect("a region");
             self.verdict(LINES, region, words[8] == "over");
+        }
+    }
+
+    /// The result of `forest_pages` in a buffer of so many bytes, for a file of so many records, 0 where it is refused.
+    pub fn pages(&mut self, records: usize, room: usize, result: u64) {
+        self.answer(Source::Pages, result);
+        let (rule, offset) = (result >> 32, result as u32 as usize);
+        if rule == 0 {
+            for (count, border) in self.page_borders.iter_mut().zip(PAGE_BORDERS) {
+                *count += u64::from(records == border);
+            }
+            self.page_breaks += u64::from(records > 59);
+        } else if room >= PAGE {
+            self.room_for_a_page += u64::from(rule == 11);
+            self.fault_after_a_page += u64::from(offset >= PAGE_RECORDS);
+        }
+    }
+
+    /// The lines of pages, but for the header of each.
+    pub fn page_lines(&mut self, text: &[u8]) {
+        for page in text.chunks(PAGE) {
+            for line in page.chunks(65).skip(1) {
+                let region = usize::from(line[41] - b'0');
+                self.verdict(PAGE_LINES, region, line[59..63] == *b"over");
+            }
         }
     }
 
@@ -107,7 +147,7 @@ impl Tally {
     /// Prints the counts and returns how many kinds are due and never occurred.
     pub fn print(&self, with_program: bool) -> u64 {
         let mut absent = 0;
-        let sources = &SOURCES[..if with_program { 7 } else { 6 }];
+        let sources = &SOURCES[..if with_program { 8 } else { 7 }];
 
         print!("{:<24}", "");
         sources.iter().for_each(|(name, _)| print!("{name:>10}"));
@@ -123,7 +163,7 @@ impl Tally {
             println!();
         }
 
-        println!("\n{:<24}{:>10}{:>10}", "", "judge", "lines");
+        println!("\n{:<24}{:>10}{:>10}{:>10}", "", "judge", "lines", "pages");
         for region in 0..5 {
             print!("{:<24}", format!("region {region}"));
             absent += row(&self.regions.map(|counts| counts[region]));
@@ -137,7 +177,6 @@ impl Tally {
             absent += row(&counts);
         }
 
-        println!("\n{:<24}{:>10}", "", "judge");
         let mut kinds: Vec<(String, u64)> = Vec::new();
         let named = |name: &str| name.to_string();
         kinds.extend(
@@ -154,12 +193,26 @@ impl Tally {
         kinds.extend(SPECIES.map(named).into_iter().zip(self.species));
         kinds.push((named("hydrogen-bound"), self.hydrogen_bound));
         kinds.push((named("aluminium-bound"), self.aluminium_bound));
-        for (name, count) in kinds {
-            print!("{name:<24}");
-            absent += row(&[count]);
-        }
-        absent
+        absent += column("judge", kinds);
+
+        let borders = PAGE_BORDERS.map(|count| format!("records: {count}"));
+        let mut kinds: Vec<(String, u64)> = borders.into_iter().zip(self.page_borders).collect();
+        kinds.push((named("page break"), self.page_breaks));
+        kinds.push((named("11, room for a page"), self.room_for_a_page));
+        kinds.push((named("fault after a page"), self.fault_after_a_page));
+        absent + column("pages", kinds)
     }
+}
+
+/// Prints a column of kinds that are all due; returns how many never occurred.
+fn column(title: &str, kinds: Vec<(String, u64)>) -> u64 {
+    println!("\n{:<24}{title:>10}", "");
+    let mut absent = 0;
+    for (name, count) in kinds {
+        print!("{name:<24}");
+        absent += row(&[count]);
+    }
+    absent
 }
 
 /// Ends a line with counts that are all due; returns how many are 0.
