@@ -38,10 +38,14 @@ abbrev pub WrittenDemand3 : List ℕ → List ℕ → Written → Type 0
 WrittenDemand3 f out r = WrittenSays LinesSay f out r
 
 -- Less deposition is never worse: record k of a file f and record l of a file g, files that the checks let pass; the two records are one site,
--- the second with as much or less sulphur and as much or less nitrogen. Where the last word of the first one's line in the text x is `within`,
--- so is that of the second one's line in the text y, and it is not `over`.
-abbrev pub PrintedNeverWorse : (f x g y : List ℕ) → Type 0
-PrintedNeverWorse f x g y =
+-- the second with as much or less sulphur and as much or less nitrogen. Where the mark of the first one in the text x is `within`, so is that of
+-- the second one in the text y, and it is not `over`. `mark` says how the mark of a record is read in a text.
+abbrev pub MarksNeverWorse : (mark : ℕ → List ℕ → List ℕ) → (f x g y : List ℕ) → Type 0
+MarksNeverWorse mark f x g y =
     (ss ts : List Site) → contents f ≡ good ss → contents g ≡ good ts → (k l : ℕ) → k < length ss → l < length ts
     → Less (getD ss k blankSite) (getD ts l blankSite)
-    → Stays (lastWord (lineAt (suc k) x)) (lastWord (lineAt (suc l) y))
+    → Stays (mark k x) (mark l y)
+
+-- in the listing: the last word of the record's line
+abbrev pub PrintedNeverWorse : (f x g y : List ℕ) → Type 0
+PrintedNeverWorse f x g y = MarksNeverWorse (λ (k : ℕ) (t : List ℕ). lastWord (lineAt (suc k) t)) f x g y

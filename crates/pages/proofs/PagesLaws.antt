@@ -18,7 +18,7 @@ use Rattle.site.proofs.Tests.{lt-or-le}
 use Rattle.output.specs.Writing.{Wrote, each}
 use Rattle.output.proofs.EachLaws.{each-append}
 use Rattle.output.proofs.WritingLaws.{nothing, then}
-use Rattle.judgement.proofs.AtSites.{word-tells, told-stays}
+use Rattle.judgement.proofs.AtSites.{word-tells}
 use Rattle.field.specs.Field.{blankSite}
 use Rattle.field.specs.Clean.{AllBytes}
 use Rattle.field.proofs.All.{all-at}
@@ -36,9 +36,10 @@ use Rattle.listing.specs.PrintedDemand3.{TextSays}
 use Rattle.listing.proofs.ListLaws.{FileClauses, filed-sites}
 use Rattle.listing.proofs.MapLaws.{map-id}
 use Rattle.listing.proofs.Demand3Laws.{passed, row-at, plain}
+use Rattle.listing.proofs.ReportLaws.{marks-stay}
 use Rattle.pages.specs.PageLine.{headLine, rowTexts, rowLine, ended}
 use Rattle.pages.specs.Pages.{linesTo, pageCount, pages, pagesOf, mostPages}
-use Rattle.pages.specs.PagesDemand3.{columnsOf, shown, siteLine, PagesSay, PagesNeverWorse}
+use Rattle.pages.specs.PagesDemand3.{columnsOf, verdictColumn, shown, siteLine, PagesSay, PagesNeverWorse}
 use Rattle.pages.proofs.PageLineLaws.{length-page-line, last-space, length-ended, free-head, free-row}
 use Rattle.pages.proofs.PageLaws.{length-lines, header-at, site-at, lines-start, lines-under}
 use Rattle.pages.proofs.SiteColumns.{line-shows}
@@ -151,7 +152,7 @@ rows-more rs i past h w = rw (add-one, take-suc rs i past) w
 -- ---- the pages, cut at each 0A, are their lines
 
 module _ (rs : List Row) (names : Plain rs) where
-  pub split-pages : split 10 (pages rs) ≡ allLines rs ++ ([] ∷ [])
+  split-pages : split 10 (pages rs) ≡ allLines rs ++ ([] ∷ [])
   unfolding pages ended
   split-pages =
       split-each 10 (λ (l : List ℕ). l) ended (λ l. refl) (allLines rs) []
@@ -200,8 +201,7 @@ module _ (f : List ℕ) (bytes : AllBytes f) (ss : List Site) (e : contents f �
 
 -- less deposition is never worse, on all pages of which the above holds
 pub pages-stay : (f x g y : List ℕ) → TextSays PagesSay f x → TextSays PagesSay g y → PagesNeverWorse f x g y
-pages-stay f x g y df dg ss ts hf hg k l kl ll less =
-    told-stays (getD ss k blankSite) (passed f ss hf k kl) (getD ts l blankSite) (less .one) (less .sulphur) (less .nitrogen) (df ss hf .says k kl) (dg ts hg .says l ll)
+pages-stay f x g y df dg = marks-stay (λ (k : ℕ) (t : List ℕ). verdictColumn (siteLine k t)) f x g y (λ ss h. df ss h .says) (λ ss h. dg ss h .says)
 
 -- ---- the clauses of the call
 

@@ -11,12 +11,10 @@ use Rattle.loads.specs.CriticalLoads.{maxS, minN, maxN, nutN}
 use Rattle.judgement.specs.Regions.{regionNumber}
 use Rattle.judgement.specs.Verdicts.{region, acidExceedance, nutrientExceedance, verdict, verdictWord}
 use Rattle.judgement.specs.Balance.{Says}
-use Rattle.judgement.specs.Less.{Less, Stays}
 use Rattle.field.specs.Field.{blankSite}
-use Rattle.record.specs.Result.{good}
-use Rattle.record.specs.File.{contents}
 use Rattle.text.specs.Decimal.{decimal}
 use Rattle.text.specs.Words.{split, lineAt}
+use Rattle.listing.specs.PrintedDemand3.{MarksNeverWorse}
 use Rattle.pages.specs.PageLine.{headLine}
 use Rattle.pages.specs.Pages.{pageCount}
 
@@ -75,10 +73,6 @@ pub record PagesSay (ss : List Site) (t : List ℕ) : Type 0 where
   pub values : (k : ℕ) → k < length ss → columnsOf (siteLine k t) ≡ shown (getD ss k blankSite)
   pub says : (k : ℕ) → k < length ss → Says (verdictColumn (siteLine k t)) (getD ss k blankSite)
 
--- Less deposition is never worse, as in the listing (`PrintedNeverWorse`): the verdict's columns of site k of the file f, on the pages x, and of site l
--- of the file g, on the pages y, where the second is the first with as much or less sulphur and as much or less nitrogen.
+-- less deposition is never worse: the verdict's column of the site's line
 abbrev pub PagesNeverWorse : (f x g y : List ℕ) → Type 0
-PagesNeverWorse f x g y =
-    (ss ts : List Site) → contents f ≡ good ss → contents g ≡ good ts → (k l : ℕ) → k < length ss → l < length ts
-    → Less (getD ss k blankSite) (getD ts l blankSite)
-    → Stays (verdictColumn (siteLine k x)) (verdictColumn (siteLine l y))
+PagesNeverWorse f x g y = MarksNeverWorse (λ (k : ℕ) (t : List ℕ). verdictColumn (siteLine k t)) f x g y
