@@ -19,7 +19,7 @@ length-on : (rs : List Row) (p : ℕ) → length (linesOn rs p) ≡ 1 + min 59 (
 unfolding linesOn
 length-on rs p = simp (length-map, length-take, length-drop) (omega arith)
 
-pub length-to : (rs : List Row) (n : ℕ) → length (linesTo rs n) ≡ n + min (59 * n) (length rs)
+length-to : (rs : List Row) (n : ℕ) → length (linesTo rs n) ≡ n + min (59 * n) (length rs)
 unfolding linesTo
 length-to rs zero = omega arith
 length-to rs (suc n) = length-append (linesTo rs n) (linesOn rs n) ∙ omega (arith, length-to rs n, length-on rs n)
@@ -30,7 +30,7 @@ length-lines rs = omega (arith, length-to rs (pageCount (length rs)))
 -- ---- where each stands
 
 module _ (rs : List Row) (p l : ℕ) (h : 59 * p ≤ length rs) (i : l < length (linesOn rs p)) where
-  pub line-on : (n : ℕ) → p < n → getD (linesTo rs n) (60 * p + l) [] ≡ getD (linesOn rs p) l []
+  line-on : (n : ℕ) → p < n → getD (linesTo rs n) (60 * p + l) [] ≡ getD (linesOn rs p) l []
   unfolding linesTo
   line-on zero q = absurd (omega arith)
   line-on (suc n) q = ⊎-elim (λ g. before g (line-on n g)) here (lt-or-le p n)

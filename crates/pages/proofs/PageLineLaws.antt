@@ -108,7 +108,7 @@ module _ (ns : List ℕ) where
   pub columns-room : (k : ℕ) → k < 7 → length (numberColumns ns k) + numberWidth k ≤ 48
   columns-room k h = omega (arith, columns-more k, columns-le (suc k) 7 (omega arith), columns-whole)
 
-seven-of : (r : Row) → length (numbersOf r) ≡ 7
+pub seven-of : (r : Row) → length (numbersOf r) ≡ 7
 unfolding numbersOf loadNumbers verdictNumbers
 seven-of r = by-verdict (r .verdict)
   where

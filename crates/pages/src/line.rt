@@ -5,7 +5,7 @@ ghost use Prim.Native.Nat.{_+_, _≤_};
 ghost use lib.ListN.{length};
 ghost use Rattle.judgement.specs.Verdicts.{verdictWord};
 ghost use Rattle.output.specs.Writing.{Wrote};
-ghost use Rattle.pages.specs.PageLine.{headLine, leftIn, rightIn, numberWidth, numberColumns, pageLine, lineTexts, rowLine, ended};
+ghost use Rattle.pages.specs.PageLine.{headLine, leftIn, rightIn, numberWidth, numberColumns, rowLine, ended};
 use crate::column::put_number;
 use crate::column::put_spaces;
 use judgement::Verdict;
@@ -75,15 +75,6 @@ fn put_numbers(out: &mut [u8], at: usize, ns: [u64; 7]) -> usize
     o
 }
 
-fn put_line(out: &mut [u8], at: usize, name: &[u8], ns: [u64; 7], v: Verdict) -> usize
-    requires { ⌜ (at + 65 ≤ length (now out)) × (length (now name) ≤ 8) ⌝ }
-    ensures { λ r. ⌜ Wrote (now (out .entry)) at (ended (pageLine (lineTexts (now (name .entry)) ns (verdictWord v)))) (now (out .exit)) r ⌝ }
-{
-    let a = put_name(out, at, name);
-    let b = put_numbers(out, a, ns);
-    put_mark(out, b, v)
-}
-
 pub fn put_row(out: &mut [u8], at: usize, row: Row) -> usize
     requires { ⌜ at + 65 ≤ length (now out) ⌝ }
     ensures { λ r. ⌜ Wrote (now (out .entry)) at (ended (rowLine row)) (now (out .exit)) r ⌝ }
@@ -92,5 +83,7 @@ pub fn put_row(out: &mut [u8], at: usize, row: Row) -> usize
     let n = name_len(row);
     let ns = numbers(row);
     let v = row.verdict;
-    put_line(out, at, &name[..n], ns, v)
+    let a = put_name(out, at, &name[..n]);
+    let b = put_numbers(out, a, ns);
+    put_mark(out, b, v)
 }
