@@ -9,6 +9,7 @@ ghost use Prim.Native.Nat.{_≤_};
 ghost use lib.ListN.{length};
 ghost use Rattle.io.specs.Counts.{Counts};
 use listing::report;
+use numbers::word_at;
 use output::Written;
 use pages::list_pages;
 use record::Outcome;
@@ -81,13 +82,15 @@ fn print_hex(bytes: &[u8]) {
     io::write_all(1, b"\n");
 }
 
+fn print_first(out: &[u8], n: usize) {
+    if n <= out.len() {
+        io::write_all(1, &out[..n]);
+    }
+}
+
 fn print_written(out: &[u8], written: Written) {
     match written {
-        Written::Count(n) => {
-            if n <= out.len() {
-                io::write_all(1, &out[..n]);
-            }
-        }
+        Written::Count(n) => print_first(out, n),
         Written::Refused { rule: _, at: _ } => {}
     }
 }
@@ -120,11 +123,7 @@ fn print_pages(file: &[u8]) {
     let mut out = [0u8; 33085];
     match list_pages(file, &mut out) {
         Written::Refused { rule, at } => print_refusal(rule, at),
-        Written::Count(n) => {
-            if n <= out.len() {
-                io::write_all(1, &out[..n]);
-            }
-        }
+        Written::Count(n) => print_first(&out, n),
     }
 }
 
@@ -151,17 +150,12 @@ fn repeat(bytes: &[u8], count: usize, out: &mut [u8]) -> usize
     n
 }
 
-// The number that two bytes hold.
-fn number(high: u8, low: u8) -> usize {
-    256 * (high as usize) + (low as usize)
-}
-
 // The buffer holds 501 records of 78 bytes, one more than a file may have.
 fn print_repeated(bytes: &[u8]) {
     if bytes.len() < 3 {
         return;
     }
-    let count = number(bytes[0], bytes[1]);
+    let count = word_at(bytes, 0) as usize;
     let mut file = [0u8; 39078];
     let n = repeat(&bytes[2..], count, &mut file);
     print_pages(&file[..n]);
