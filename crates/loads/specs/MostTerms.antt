@@ -1,4 +1,4 @@
--- Upper bounds of the terms at a site that passes the check, and of the loads and sums made of them, each written once.
+-- Upper bounds of the terms at a site that passes the check, and of the loads and sums made of them, and the least e, each written once.
 use Prim.Native.Nat.{ℕ, _+_, _*_, _-_, _/_}
 use Rattle.site.specs.Ranges.{depthRange, percolationRange, mostEntries, shareRange, mostYield, immobilisationRange, availableRange, baseDepositionRange, ratioRange, ceilingRange, leachateRange}
 use Rattle.loads.specs.Uptake.{uptakeDivisor}
