@@ -1,3 +1,4 @@
 pub mod WritingLaws
 pub mod EachLaws
+pub mod MapLaws
 pub mod OutputLaws

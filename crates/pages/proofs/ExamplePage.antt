@@ -15,7 +15,7 @@ use Rattle.judgement.specs.Regions.{D, excess, regionOf, acidIn, acidOf}
 use Rattle.judgement.specs.Verdicts.{region, acidExceedance, nutrientExceedance, verdictOf, verdict, verdictWord}
 use Rattle.text.specs.Decimal.{dec, decimal}
 use Rattle.listing.specs.Rows.{rowOf}
-use Rattle.pages.specs.PageLine.{leftIn, rightIn, inColumns, pageLine, rowLine}
+use Rattle.columns.specs.PageLine.{leftIn, rightIn, inColumns, pageLine, rowLine}
 use Rattle.pages.specs.Pages.{mostPages}
 use Rattle.pages.specs.PagesDemand3.{shown}
 use Rattle.pages.proofs.SiteColumns.{texts-shown}

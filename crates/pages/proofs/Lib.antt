@@ -1,4 +1,3 @@
-pub mod PageLineLaws
 pub mod ColumnLaws
 pub mod PageLaws
 pub mod SiteColumns

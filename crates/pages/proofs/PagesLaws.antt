@@ -15,7 +15,7 @@ use Rattle.output.specs.declared.Written.the-variants.{Count, Refused}
 use Rattle.output.specs.Output.{held}
 use Rattle.text.specs.TextAnswer.{textAnswer}
 use Rattle.site.proofs.Tests.{lt-or-le}
-use Rattle.output.specs.Writing.{Wrote, each}
+use Rattle.output.specs.Writing.{Wrote, WroteIf, each}
 use Rattle.output.proofs.EachLaws.{each-append}
 use Rattle.output.proofs.WritingLaws.{nothing, then}
 use Rattle.judgement.proofs.AtSites.{word-tells}
@@ -34,13 +34,13 @@ use Rattle.text.proofs.TextAnswers.{answered, text-refused, text-printed}
 use Rattle.listing.specs.Rows.{rowOf}
 use Rattle.listing.specs.PrintedDemand3.{TextSays}
 use Rattle.listing.proofs.ListLaws.{FileClauses, filed-sites}
-use Rattle.listing.proofs.MapLaws.{map-id}
+use Rattle.output.proofs.MapLaws.{map-id}
 use Rattle.listing.proofs.Demand3Laws.{passed, row-at, plain}
 use Rattle.listing.proofs.ReportLaws.{marks-stay}
-use Rattle.pages.specs.PageLine.{headLine, rowTexts, rowLine, ended}
+use Rattle.columns.specs.PageLine.{headLine, rowLine, ended}
 use Rattle.pages.specs.Pages.{linesTo, pageCount, pages, pagesOf, mostPages}
 use Rattle.pages.specs.PagesDemand3.{columnsOf, verdictColumn, shown, siteLine, PagesSay, PagesNeverWorse}
-use Rattle.pages.proofs.PageLineLaws.{length-page-line, last-space, length-ended, free-head, free-row}
+use Rattle.columns.proofs.PageLineLaws.{length-page-line, last-space, length-ended, length-head, length-row, free-head, free-row}
 use Rattle.pages.proofs.PageLaws.{length-lines, header-at, site-at, lines-start, lines-under}
 use Rattle.pages.proofs.SiteColumns.{line-shows}
 
@@ -108,11 +108,11 @@ unfolding each
 each-snoc ls l = each-append ended ls (l ∷ []) ∙ ap (λ (t : List ℕ). each ended ls ++ t) (append-nil (ended l))
 
 module _ {d : List ℕ} (rs : List Row) {out : List ℕ} {o : ℕ} (w : Wrote d 0 (pages rs) out o) where
-  pub headed-start : {e : List ℕ} {q : ℕ} → length rs % 59 ≡ 0 → Wrote out o (ended headLine) e q → Headed d rs e q
+  pub headed-start : {e : List ℕ} {q : ℕ} → length rs % 59 ≡ 0 → 65 * (length rs + 1 + pageCount (length rs)) ≤ length out → WroteIf out o (ended headLine) e q → Headed d rs e q
   unfolding pages
-  headed-start z v = record {
+  headed-start z room v = record {
     before = allLines rs ++ (headLine ∷ []);
-    wrote = rw (each-snoc (allLines rs) headLine) (then w v);
+    wrote = rw (each-snoc (allLines rs) headLine) (then w (v .fits (omega (arith, w .next, length-pages rs, length-head))));
     next = λ r. ap (linesTo (rs ++ (r ∷ []))) (snoc-count rs r) ∙ lines-start rs r z ∙ sym (append-assoc (allLines rs) (headLine ∷ []) (rowLine r ∷ []));
   }
 
@@ -125,16 +125,15 @@ module _ {d : List ℕ} {rs : List Row} {out : List ℕ} {o : ℕ} (x : Headed d
   unfolding pages
   row-is = ap (each ended) (x .next r) ∙ each-snoc (x .before) (rowLine r)
 
-  pub headed-row : {e : List ℕ} {q : ℕ} → Wrote out o (ended (rowLine r)) e q → Wrote d 0 (pages (rs ++ (r ∷ []))) e q
-  headed-row v = rw row-is (then (x .wrote) v)
-
-  -- the room for it
-  pub headed-room : o + 65 ≡ 65 * (length rs + 1 + pageCount (length rs + 1))
-  unfolding rowLine
-  headed-room =
+  -- where its line starts
+  row-start : o + 65 ≡ 65 * (length rs + 1 + pageCount (length rs + 1))
+  row-start =
       let n = length-append rs (r ∷ []) in
       let whole = sym (length-pages (rs ++ (r ∷ []))) ∙ ap length row-is ∙ length-append (each ended (x .before)) (ended (rowLine r)) in
-      omega (arith, whole, length-ended (rowLine r), length-page-line (rowTexts r), x .wrote .next, n, snoc-count rs r)
+      omega (arith, whole, length-row r, x .wrote .next, n, snoc-count rs r)
+
+  pub headed-row : {e : List ℕ} {q : ℕ} → 65 * (length rs + 1 + pageCount (length rs + 1)) ≤ length out → WroteIf out o (ended (rowLine r)) e q → Wrote d 0 (pages (rs ++ (r ∷ []))) e q
+  headed-row room v = rw row-is (then (x .wrote) (v .fits (omega (arith, row-start, length-row r))))
 
 -- the answer and the buffer, where the pages do not fit and where they are written
 module _ (rs : List Row) {n : ℕ} (is : length rs ≡ n) where

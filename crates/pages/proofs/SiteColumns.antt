@@ -32,7 +32,7 @@ use Rattle.text.proofs.MarkLaws.{free-mark}
 use Rattle.listing.specs.Rows.{rowBy, rowOf}
 use Rattle.listing.proofs.RowLaws.{row-numbers}
 use Rattle.listing.proofs.Demand3Laws.{site-name-free, no-space}
-use Rattle.pages.specs.PageLine.{pageLine, lineTexts, rowTexts, rowLine}
+use Rattle.columns.specs.PageLine.{pageLine, lineTexts, rowTexts, rowLine}
 use Rattle.pages.specs.PagesDemand3.{columnsOf, shown}
 use Rattle.pages.proofs.ColumnLaws.{Whole, columns-back}
 

@@ -1,3 +1,2 @@
-pub mod PageLine
 pub mod Pages
 pub mod PagesDemand3

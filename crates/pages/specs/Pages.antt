@@ -7,7 +7,7 @@ use Rattle.site.specs.declared.Site.{Site}
 use Rattle.output.specs.Writing.{each}
 use Rattle.text.specs.declared.Row.{Row}
 use Rattle.listing.specs.Rows.{rowOf}
-use Rattle.pages.specs.PageLine.{headLine, rowLine, ended}
+use Rattle.columns.specs.PageLine.{headLine, rowLine, ended}
 
 -- the lines of page p; the first page is page 0
 unfoldable pub linesOn : List Row → ℕ → List (List ℕ)

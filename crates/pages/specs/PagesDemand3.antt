@@ -15,7 +15,7 @@ use Rattle.field.specs.Field.{blankSite}
 use Rattle.text.specs.Decimal.{decimal}
 use Rattle.text.specs.Words.{split, lineAt}
 use Rattle.listing.specs.PrintedDemand3.{MarksNeverWorse}
-use Rattle.pages.specs.PageLine.{headLine}
+use Rattle.columns.specs.PageLine.{headLine}
 use Rattle.pages.specs.Pages.{pageCount}
 
 -- a text cut into pieces of the widths ws

@@ -9,8 +9,8 @@ ghost use Rattle.listing.specs.FileText.{fileAnswer, fileNumbers, fileHeld, Fil
 ghost use Rattle.listing.specs.PrintedDemand3.{WrittenSays};
 ghost use Rattle.pages.specs.Pages.{pages, pagesOf, mostPages};
 ghost use Rattle.pages.specs.PagesDemand3.{PagesSay};
-use crate::line::put_header;
-use crate::line::put_row;
+use columns::put_header;
+use columns::put_row;
 use listing::Walked;
 use listing::walk_file;
 use output::Written;

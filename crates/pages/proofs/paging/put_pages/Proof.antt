@@ -6,12 +6,11 @@ use borrow.Author.Needs.{needs}
 use lib.ListN.{length, take}
 use lib.Seq.{length-take-le}
 use Rattle.output.proofs.WritingLaws.{kept}
-use Rattle.text.specs.Line.{blankRow}
 use Rattle.output.specs.Writing.{Wrote}
 use denote.Ref.{now}
 use mathlib.Core.Logic.{⊎-elim}
 use Rattle.pages.specs.Pages.{pages}
-use Rattle.pages.proofs.PagesLaws.{nothing-paged, Headed, headed-start, headed-under, headed-row, headed-room, rows-more, length-pages, pages-short, pages-put}
+use Rattle.pages.proofs.PagesLaws.{nothing-paged, Headed, headed-start, headed-under, headed-row, rows-more, pages-short, pages-put}
 use Rattle.pages.proofs.paging.put_pages.Statement.{statement}
 use Rattle.pages.proofs.paging.put_pages.Tie as tie
 
@@ -49,9 +48,7 @@ counted l =
     length-take-le (l .loop .i) (l .before .before .before .args .t2 .rows) (omega arith)
 
 put-header-requires : tie.Need-put-header-requires Inv-loop μ-loop
-put-header-requires c κs =
-    let l = c .before .before .before in
-    omega (arith, l .loop .inv .3 .next, length-pages (take (l .loop .i) (l .before .before .before .args .t2 .rows)), counted l)
+put-header-requires c κs = search needs
 
 mul-put-row : tie.Need-mul-put-row Inv-loop μ-loop
 mul-put-row c = search needs
@@ -70,15 +67,12 @@ headed c =
     let w = l .loop .inv .3 in
     let n = counted l in
     ⊎-elim
-    (λ t. rw (t .5, t .6) (headed-start rs w (omega arith) (t .2 .ensures)))
+    (λ t. rw (t .5, t .6) (headed-start rs w (omega arith) (omega arith) (t .2 .ensures)))
     (λ f. rw (f .1, f .2) (headed-under rs w (λ z. omega arith)))
     (c .if2 .came)
 
 put-row-requires : tie.Need-put-row-requires Inv-loop μ-loop
-put-row-requires c κs =
-    let j = c .before .before in
-    let x = headed j in
-    omega (arith, headed-room x blankRow, counted (j .before .before), kept (x .wrote))
+put-row-requires c κs = search needs
 
 add-i : tie.Need-add-i Inv-loop μ-loop
 add-i c = search needs
@@ -92,7 +86,9 @@ loop-again c =
     let l = j .before .before in
     let a = l .before .before .before .args in
     let i = l .loop .i in
-    let w = headed-row (headed j) _ (c .before .before .put-row .ensures) in
+    let x = headed j in
+    let n = counted l in
+    let w = headed-row x _ (omega (arith, kept (x .wrote))) (c .before .before .put-row .ensures) in
     (omega arith, omega arith, kept w, rows-more (a .t2 .rows) i _ (omega arith) w)
 
 same-length : tie.Need-same-length Inv-loop μ-loop

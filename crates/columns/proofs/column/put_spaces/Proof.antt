@@ -5,8 +5,8 @@ use native.Mathlib.Omega.{arith}
 use lib.ListN.{length, replicate, length-set, replicate-append-replicate}
 use Rattle.output.specs.Writing.{Wrote}
 use Rattle.output.proofs.WritingLaws.{nothing, and-stored, ends-at}
-use Rattle.pages.proofs.column.put_spaces.Statement.{statement}
-use Rattle.pages.proofs.column.put_spaces.Tie as tie
+use Rattle.columns.proofs.column.put_spaces.Statement.{statement}
+use Rattle.columns.proofs.column.put_spaces.Tie as tie
 
 abbrev Inv-loop : tie.InvT-loop
 Inv-loop out₀ at count i₀ out i = (i ≤ count) × (length out ≡ length out₀) × Wrote out₀ at (replicate i 32) out (at + i)

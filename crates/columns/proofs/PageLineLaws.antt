@@ -20,8 +20,8 @@ use Rattle.text.specs.Listing.{headText}
 use Rattle.text.specs.Words.{consTo, split, free}
 use Rattle.text.proofs.WordLaws.{free-cons, free-append, free-false, free-decimal}
 use Rattle.text.proofs.MarkLaws.{free-mark}
-use Rattle.listing.proofs.MapLaws.{getD-map}
-use Rattle.pages.specs.PageLine.{leftIn, rightIn, inColumns, pageLine, headLine, lineTexts, rowTexts, rowLine, numberWidth, numberColumns, ended}
+use Rattle.output.proofs.MapLaws.{getD-map}
+use Rattle.columns.specs.PageLine.{leftIn, rightIn, inColumns, pageLine, headLine, lineTexts, rowTexts, rowLine, numberWidth, numberColumns, ended}
 
 -- ---- lengths
 
@@ -48,6 +48,17 @@ last-space ts = space-behind (inColumns ts) (length-page-line ts)
 pub length-ended : (l : List ℕ) → length (ended l) ≡ length l + 1
 unfolding ended
 length-ended l = length-append l (10 ∷ [])
+
+whole-line : (ts : List (List ℕ)) → length (ended (pageLine ts)) ≡ 65
+whole-line ts = omega (arith, length-ended (pageLine ts), length-page-line ts)
+
+pub length-head : length (ended headLine) ≡ 65
+unfolding headLine
+length-head = whole-line _
+
+pub length-row : (r : Row) → length (ended (rowLine r)) ≡ 65
+unfolding rowLine
+length-row r = whole-line _
 
 -- the header, with its end, as the bytes that are written
 pub head-bytes : ended headLine

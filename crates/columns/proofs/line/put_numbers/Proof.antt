@@ -7,10 +7,10 @@ use borrow.Author.Needs.{needs}
 use lib.ListN.{length}
 use Rattle.output.specs.Writing.{Wrote}
 use Rattle.output.proofs.WritingLaws.{nothing, then, kept}
-use Rattle.pages.specs.PageLine.{numberColumns}
-use Rattle.pages.proofs.PageLineLaws.{columns-room, columns-whole}
-use Rattle.pages.proofs.line.put_numbers.Statement.{statement}
-use Rattle.pages.proofs.line.put_numbers.Tie as tie
+use Rattle.columns.specs.PageLine.{numberColumns}
+use Rattle.columns.proofs.PageLineLaws.{columns-room, columns-whole}
+use Rattle.columns.proofs.line.put_numbers.Statement.{statement}
+use Rattle.columns.proofs.line.put_numbers.Tie as tie
 
 abbrev Inv-loop : tie.InvT-loop
 Inv-loop out₀ at ns o₀ i₀ out o i = (i ≤ 7) × (length out ≡ length out₀) × Wrote out₀ at (numberColumns ns i) out o

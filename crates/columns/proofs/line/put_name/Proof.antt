@@ -5,9 +5,9 @@ use denote.Ref.{now}
 use lib.ListN.{length, replicate, length-append, length-replicate}
 use Rattle.output.specs.Writing.{Wrote}
 use Rattle.output.proofs.WritingLaws.{then}
-use Rattle.pages.proofs.PageLineLaws.{left-short}
-use Rattle.pages.proofs.line.put_name.Statement.{statement}
-use Rattle.pages.proofs.line.put_name.Tie as tie
+use Rattle.columns.proofs.PageLineLaws.{left-short}
+use Rattle.columns.proofs.line.put_name.Statement.{statement}
+use Rattle.columns.proofs.line.put_name.Tie as tie
 
 put-bytes-requires : tie.Need-put-bytes-requires
 put-bytes-requires c κs = search needs

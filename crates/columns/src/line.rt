@@ -4,8 +4,8 @@ ghost use mathlib.Core.List.{[], _∷_, _++_};
 ghost use Prim.Native.Nat.{_+_, _≤_};
 ghost use lib.ListN.{length};
 ghost use Rattle.judgement.specs.Verdicts.{verdictWord};
-ghost use Rattle.output.specs.Writing.{Wrote};
-ghost use Rattle.pages.specs.PageLine.{headLine, leftIn, rightIn, numberWidth, numberColumns, rowLine, ended};
+ghost use Rattle.output.specs.Writing.{Wrote, WroteIf};
+ghost use Rattle.columns.specs.PageLine.{headLine, leftIn, rightIn, numberWidth, numberColumns, rowLine, ended};
 use crate::column::put_number;
 use crate::column::put_spaces;
 use judgement::Verdict;
@@ -14,9 +14,9 @@ use text::Row;
 use text::name_len;
 use text::numbers;
 
+// Writes the header's line, and returns the index after it; where it does not fit, nothing is written.
 pub fn put_header(out: &mut [u8], at: usize) -> usize
-    requires { ⌜ at + 65 ≤ length (now out) ⌝ }
-    ensures { λ r. ⌜ Wrote (now (out .entry)) at (ended headLine) (now (out .exit)) r ⌝ }
+    ensures { λ r. ⌜ WroteIf (now (out .entry)) at (ended headLine) (now (out .exit)) r ⌝ }
 {
     put_bytes(
         out,
@@ -75,7 +75,7 @@ fn put_numbers(out: &mut [u8], at: usize, ns: [u64; 7]) -> usize
     o
 }
 
-pub fn put_row(out: &mut [u8], at: usize, row: Row) -> usize
+fn put_line(out: &mut [u8], at: usize, row: Row) -> usize
     requires { ⌜ at + 65 ≤ length (now out) ⌝ }
     ensures { λ r. ⌜ Wrote (now (out .entry)) at (ended (rowLine row)) (now (out .exit)) r ⌝ }
 {
@@ -86,4 +86,17 @@ pub fn put_row(out: &mut [u8], at: usize, row: Row) -> usize
     let a = put_name(out, at, &name[..n]);
     let b = put_numbers(out, a, ns);
     put_mark(out, b, v)
+}
+
+// Writes a row's line, and returns the index after it; where it does not fit, nothing is written.
+pub fn put_row(out: &mut [u8], at: usize, row: Row) -> usize
+    ensures { λ r. ⌜ WroteIf (now (out .entry)) at (ended (rowLine row)) (now (out .exit)) r ⌝ }
+{
+    if out.len() < at {
+        return at;
+    }
+    if out.len() - at < 65 {
+        return at;
+    }
+    put_line(out, at, row)
 }

@@ -1,8 +1,8 @@
 use native.Mathlib.Omega.{arith}
 use borrow.Author.Tests.{lt-ltb, le-ltb}
-use Rattle.pages.specs.PageLine.{numberWidth}
-use Rattle.pages.proofs.line.number_width.Statement.{statement}
-use Rattle.pages.proofs.line.number_width.Tie as tie
+use Rattle.columns.specs.PageLine.{numberWidth}
+use Rattle.columns.proofs.line.number_width.Statement.{statement}
+use Rattle.columns.proofs.line.number_width.Tie as tie
 
 returns : tie.Need-returns
 unfolding numberWidth

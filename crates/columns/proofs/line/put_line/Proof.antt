@@ -5,10 +5,10 @@ use lib.ListN.{length}
 use Rattle.judgement.specs.Verdicts.{verdictWord}
 use Rattle.text.specs.Line.{numbersOf, nameText}
 use Rattle.output.proofs.WritingLaws.{then}
-use Rattle.pages.specs.PageLine.{rowTexts, rowLine}
-use Rattle.pages.proofs.PageLineLaws.{line-bytes, seven-of}
-use Rattle.pages.proofs.line.put_row.Statement.{statement}
-use Rattle.pages.proofs.line.put_row.Tie as tie
+use Rattle.columns.specs.PageLine.{rowTexts, rowLine}
+use Rattle.columns.proofs.PageLineLaws.{line-bytes, seven-of}
+use Rattle.columns.proofs.line.put_line.Statement.{statement}
+use Rattle.columns.proofs.line.put_line.Tie as tie
 
 name-len-requires : tie.Need-name-len-requires
 name-len-requires c κs = search needs
@@ -49,8 +49,8 @@ returns c =
     rw (line-bytes (nameText row) (numbersOf row) (verdictWord (row .verdict)) (seven-of row))
     (then (then (rw (ns .before .name-len .ensures .1) at (name .put-name .ensures .0)) (rw (ns .numbers .ensures) at (numbers .put-numbers .ensures .0))) (mark .put-mark .ensures .0))
 
-pub put-row-spec : {M : Type 1} → statement M
-put-row-spec =
+pub put-line-spec : {M : Type 1} → statement M
+put-line-spec =
     tie.close
     (tie.spec
     name-len-requires

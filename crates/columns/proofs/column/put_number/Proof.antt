@@ -13,10 +13,10 @@ use Rattle.output.specs.Writing.{Wrote}
 use Rattle.output.proofs.WritingLaws.{then, in-front}
 use Rattle.text.specs.Decimal.{decimal}
 use Rattle.text.proofs.DecimalLaws.{length-u64}
-use Rattle.pages.specs.PageLine.{rightIn}
-use Rattle.pages.proofs.PageLineLaws.{length-right}
-use Rattle.pages.proofs.column.put_number.Statement.{statement}
-use Rattle.pages.proofs.column.put_number.Tie as tie
+use Rattle.columns.specs.PageLine.{rightIn}
+use Rattle.columns.proofs.PageLineLaws.{length-right}
+use Rattle.columns.proofs.column.put_number.Statement.{statement}
+use Rattle.columns.proofs.column.put_number.Tie as tie
 
 slice-aggregate-put-decimal : tie.Need-slice-aggregate-put-decimal
 slice-aggregate-put-decimal c = search needs

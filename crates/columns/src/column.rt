@@ -4,7 +4,7 @@ ghost use Prim.Native.Nat.{_+_, _≤_};
 ghost use lib.ListN.{length, replicate};
 ghost use Rattle.output.specs.Writing.{Wrote};
 ghost use Rattle.text.specs.Decimal.{decimal};
-ghost use Rattle.pages.specs.PageLine.{rightIn};
+ghost use Rattle.columns.specs.PageLine.{rightIn};
 use output::put_bytes;
 use text::put_decimal;
 

@@ -1,9 +1,9 @@
 use native.Mathlib.Omega.{arith}
 use borrow.Author.Needs.{needs}
 use Rattle.judgement.specs.Verdicts.{verdictWord}
-use Rattle.pages.specs.PageLine.{rightIn}
-use Rattle.pages.proofs.line.put_mark.Statement.{statement}
-use Rattle.pages.proofs.line.put_mark.Tie as tie
+use Rattle.columns.specs.PageLine.{rightIn}
+use Rattle.columns.proofs.line.put_mark.Statement.{statement}
+use Rattle.columns.proofs.line.put_mark.Tie as tie
 
 enum-told : tie.Need-enum-told
 enum-told c = search needs

@@ -1,8 +1,7 @@
-use native.Mathlib.Omega.{arith}
 use borrow.Author.Needs.{needs}
-use Rattle.pages.proofs.PageLineLaws.{head-bytes}
-use Rattle.pages.proofs.line.put_header.Statement.{statement}
-use Rattle.pages.proofs.line.put_header.Tie as tie
+use Rattle.columns.proofs.PageLineLaws.{head-bytes}
+use Rattle.columns.proofs.line.put_header.Statement.{statement}
+use Rattle.columns.proofs.line.put_header.Tie as tie
 
 slice-aggregate-put-bytes : tie.Need-slice-aggregate-put-bytes
 slice-aggregate-put-bytes c = search needs
@@ -14,7 +13,7 @@ same-length : tie.Need-same-length
 same-length c = search needs
 
 returns : tie.Need-returns
-returns c = rw head-bytes (c .before .before .put-bytes .ensures .fits (omega arith))
+returns c = rw head-bytes (c .before .before .put-bytes .ensures)
 
 pub put-header-spec : {M : Type 1} → statement M
 put-header-spec =
