@@ -82,7 +82,7 @@ length-each (l ∷ ls) h =
     length-append (ended l) (each ended ls)
     ∙ omega (arith, length-ended l, h 0 (omega arith), length-each ls (λ i g. h (suc i) (omega arith)))
 
-pub length-pages : (rs : List Row) → length (pages rs) ≡ 65 * (length rs + pageCount (length rs))
+length-pages : (rs : List Row) → length (pages rs) ≡ 65 * (length rs + pageCount (length rs))
 unfolding pages
 length-pages rs =
     length-each (allLines rs) (λ i h. wide-lines rs i (omega (arith, length-lines rs)))
