@@ -1,1 +1,3 @@
 pub mod PageLineLaws
+pub mod ColumnLaws
+pub mod ExampleLine

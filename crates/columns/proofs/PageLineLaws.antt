@@ -20,7 +20,7 @@ use Rattle.text.specs.Listing.{headText}
 use Rattle.text.specs.Words.{consTo, split, free}
 use Rattle.text.proofs.WordLaws.{free-cons, free-append, free-false, free-decimal}
 use Rattle.text.proofs.MarkLaws.{free-mark}
-use Rattle.output.proofs.MapLaws.{getD-map}
+use Rattle.site.proofs.MapLaws.{getD-map}
 use Rattle.columns.specs.PageLine.{leftIn, rightIn, inColumns, pageLine, headLine, lineTexts, rowTexts, rowLine, numberWidth, numberColumns, ended}
 
 -- ---- lengths

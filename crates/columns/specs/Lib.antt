@@ -1,1 +1,2 @@
 pub mod PageLine
+pub mod LineRead

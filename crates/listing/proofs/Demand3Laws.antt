@@ -28,7 +28,7 @@ use Rattle.field.proofs.All.{all-at}
 use Rattle.record.proofs.SiteFile.{sites-checked}
 use Rattle.listing.specs.PrintedDemand3.{LinesSay}
 use Rattle.listing.specs.Rows.{rowBy, rowOf}
-use Rattle.output.proofs.MapLaws.{getD-map}
+use Rattle.site.proofs.MapLaws.{getD-map}
 
 pub says : (s : Site) → siteRule s ≡ Passed → Says (verdictWord (rowOf s .verdict)) s
 unfolding rowOf rowBy

@@ -22,7 +22,7 @@ use Rattle.listing.specs.declared.Walked.{Walked}
 use Rattle.listing.specs.declared.Step.{Step}
 use Rattle.listing.specs.Rows.{rowOf, padded, stepOf, walkedOf}
 use Rattle.listing.proofs.StepLaws.{step-outcome, step-next, step-row}
-use Rattle.output.proofs.MapLaws.{map-append}
+use Rattle.site.proofs.MapLaws.{map-append}
 
 -- sites in front of what the rest holds
 abbrev before : List Site → Contents Site → Contents Site

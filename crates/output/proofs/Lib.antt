@@ -1,4 +1,3 @@
 pub mod WritingLaws
 pub mod EachLaws
-pub mod MapLaws
 pub mod OutputLaws

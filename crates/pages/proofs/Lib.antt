@@ -1,4 +1,3 @@
-pub mod ColumnLaws
 pub mod PageLaws
 pub mod SiteColumns
 pub mod ExamplePage

@@ -9,7 +9,7 @@ use lib.ListN.{length, getD, take, drop, length-append, length-map, length-take,
 use lib.Seq.{take-all, take-append-le, drop-append-le, getD-take, getD-drop, getD-append-add}
 use Rattle.site.proofs.Tests.{lt-or-le}
 use Rattle.text.specs.declared.Row.{Row}
-use Rattle.output.proofs.MapLaws.{map-append, getD-map}
+use Rattle.site.proofs.MapLaws.{map-append, getD-map}
 use Rattle.columns.specs.PageLine.{headLine, rowLine}
 use Rattle.pages.specs.Pages.{linesOn, linesTo, pageCount}
 

@@ -34,15 +34,16 @@ use Rattle.text.proofs.TextAnswers.{answered, text-refused, text-printed}
 use Rattle.listing.specs.Rows.{rowOf}
 use Rattle.listing.specs.PrintedDemand3.{TextSays}
 use Rattle.listing.proofs.ListLaws.{FileClauses, filed-sites}
-use Rattle.output.proofs.MapLaws.{map-id}
+use Rattle.site.proofs.MapLaws.{map-id}
 use Rattle.listing.proofs.Demand3Laws.{passed, row-at, plain}
 use Rattle.listing.proofs.ReportLaws.{marks-stay}
-use Rattle.columns.specs.PageLine.{headLine, rowLine, ended}
+use Rattle.columns.specs.PageLine.{pageLine, headLine, rowLine, ended}
+use Rattle.columns.specs.LineRead.{columnsOf, verdictColumn}
 use Rattle.pages.specs.Pages.{linesTo, pageCount, pages, pagesOf, mostPages}
-use Rattle.pages.specs.PagesDemand3.{columnsOf, verdictColumn, shown, siteLine, PagesSay, PagesNeverWorse}
+use Rattle.pages.specs.PagesDemand3.{shown, siteLine, PagesSay, PagesNeverWorse}
 use Rattle.columns.proofs.PageLineLaws.{length-page-line, last-space, length-ended, length-head, length-row, free-head, free-row}
 use Rattle.pages.proofs.PageLaws.{length-lines, header-at, site-at, lines-start, lines-under}
-use Rattle.pages.proofs.SiteColumns.{line-shows}
+use Rattle.pages.proofs.SiteColumns.{row-shown, line-shows}
 
 -- all lines of the pages
 abbrev allLines : List Row → List (List ℕ)
@@ -125,15 +126,15 @@ module _ {d : List ℕ} {rs : List Row} {out : List ℕ} {o : ℕ} (x : Headed d
   unfolding pages
   row-is = ap (each ended) (x .next r) ∙ each-snoc (x .before) (rowLine r)
 
-  -- where its line starts
-  row-start : o + 65 ≡ 65 * (length rs + 1 + pageCount (length rs + 1))
-  row-start =
+  -- where its line ends
+  row-end : o + 65 ≡ 65 * (length rs + 1 + pageCount (length rs + 1))
+  row-end =
       let n = length-append rs (r ∷ []) in
       let whole = sym (length-pages (rs ++ (r ∷ []))) ∙ ap length row-is ∙ length-append (each ended (x .before)) (ended (rowLine r)) in
       omega (arith, whole, length-row r, x .wrote .next, n, snoc-count rs r)
 
   pub headed-row : {e : List ℕ} {q : ℕ} → 65 * (length rs + 1 + pageCount (length rs + 1)) ≤ length out → WroteIf out o (ended (rowLine r)) e q → Wrote d 0 (pages (rs ++ (r ∷ []))) e q
-  headed-row room v = rw row-is (then (x .wrote) (v .fits (omega (arith, row-start, length-row r))))
+  headed-row room v = rw row-is (then (x .wrote) (v .fits (omega (arith, row-end, length-row r))))
 
 -- the answer and the buffer, where the pages do not fit and where they are written
 module _ (rs : List Row) {n : ℕ} (is : length rs ≡ n) where
@@ -176,12 +177,18 @@ module _ (f : List ℕ) (bytes : AllBytes f) (ss : List Site) (e : contents f �
   unfolding rows
   names = plain f ss e
 
+  site-line : (k : ℕ) → k < length ss → siteLine k (pages rows) ≡ pageLine (shown (getD ss k blankSite))
+  unfolding rows
+  site-line k h =
+      line-is rows names (60 * (k / 59) + (k % 59 + 1)) (omega (arith, count))
+      ∙ site-at rows k blankRow (omega (arith, count))
+      ∙ ap rowLine (row-at f ss e k h)
+      ∙ row-shown (getD ss k blankSite)
+
   site-columns : (k : ℕ) → k < length ss → columnsOf (siteLine k (pages rows)) ≡ shown (getD ss k blankSite)
-  unfolding rows lineAt shown
   site-columns k h =
       let s = getD ss k blankSite in
-      ap columnsOf (line-is rows names (60 * (k / 59) + (k % 59 + 1)) (omega (arith, count)) ∙ site-at rows k blankRow (omega (arith, count)) ∙ ap rowLine (row-at f ss e k h))
-      ∙ line-shows s (passed f ss e k h) (all-at (sites-pairs f bytes ss e) k blankSite h)
+      ap columnsOf (site-line k h) ∙ line-shows s (passed f ss e k h) (all-at (sites-pairs f bytes ss e) k blankSite h)
 
   pub pages-say : PagesSay ss (pagesOf ss)
   unfolding rows lineAt shown
@@ -194,6 +201,7 @@ module _ (f : List ℕ) (bytes : AllBytes f) (ss : List Site) (e : contents f �
     wide = λ i h. ap length (line-is rows names i (omega (arith, count))) ∙ wide-lines rows i (omega (arith, count));
     space = λ i h. ap (λ (l : List ℕ). getD l 63 0) (line-is rows names i (omega (arith, count))) ∙ space-lines rows i (omega (arith, count));
     header = λ p h. line-is rows names (60 * p + 0) (omega (arith, count)) ∙ header-at rows p (omega (arith, count));
+    placed = site-line;
     values = site-columns;
     says = λ k h. rw (site-columns k h) (word-tells (getD ss k blankSite) (passed f ss e k h) _ _);
   }

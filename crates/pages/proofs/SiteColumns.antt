@@ -1,7 +1,6 @@
 -- The columns of a site's line show its values: none is longer than its column, and none has a space.
 use Prim.Native.Nat.{ℕ, _≤_, _^_, _<_}
-use mathlib.Core.Path.{_≡_, ap, _∙_}
-use mathlib.Core.List.{List}
+use mathlib.Core.Path.{_≡_, ap}
 use native.Mathlib.Omega.{arith}
 use lib.ListN.{length, take, length-take}
 use Rattle.site.specs.declared.Site.{Site}
@@ -33,13 +32,18 @@ use Rattle.listing.specs.Rows.{rowBy, rowOf}
 use Rattle.listing.proofs.RowLaws.{row-numbers}
 use Rattle.listing.proofs.Demand3Laws.{site-name-free, no-space}
 use Rattle.columns.specs.PageLine.{pageLine, lineTexts, rowTexts, rowLine}
-use Rattle.pages.specs.PagesDemand3.{columnsOf, shown}
-use Rattle.pages.proofs.ColumnLaws.{Whole, columns-back}
+use Rattle.columns.specs.LineRead.{columnsOf}
+use Rattle.columns.proofs.ColumnLaws.{Whole, columns-back}
+use Rattle.pages.specs.PagesDemand3.{shown}
 
 -- the texts of a site's row, in document 01's terms
-pub texts-shown : (s : Site) → rowTexts (rowOf s) ≡ shown s
+texts-shown : (s : Site) → rowTexts (rowOf s) ≡ shown s
 unfolding rowTexts lineTexts rowOf rowBy judgedOf nameText shown
 texts-shown s = rw (row-numbers s)
+
+pub row-shown : (s : Site) → rowLine (rowOf s) ≡ pageLine (shown s)
+unfolding rowLine
+row-shown s = ap pageLine (texts-shown s)
 
 -- a number below 10 to the power of its column's width is whole
 number-whole : (w n : ℕ) → 1 ≤ w → n < 10 ^ w → Whole w (decimal n)
@@ -78,12 +82,11 @@ module _ (s : Site) (passed : siteRule s ≡ Passed) (pair : PairRange s) where
   nutrient-small = omega (arith, pair .nitrogen)
 
   -- each value stands whole in its column
-  pub line-shows : columnsOf (rowLine (rowOf s)) ≡ shown s
-  unfolding rowLine shown
+  pub line-shows : columnsOf (pageLine (shown s)) ≡ shown s
+  unfolding shown
   line-shows =
       let l = load-bounds s (bounds s passed) in
-      ap (λ (ts : List (List ℕ)). columnsOf (pageLine ts)) (texts-shown s)
-      ∙ columns-back _ _ _ _ _ _ _ _ _ name-whole
+      columns-back _ _ _ _ _ _ _ _ _ name-whole
       (number-whole 8 _ (omega arith) (omega (arith, l .maxS-most)))
       (number-whole 8 _ (omega arith) (omega (arith, l .minN-most)))
       (number-whole 8 _ (omega arith) (omega (arith, l .maxN-most)))

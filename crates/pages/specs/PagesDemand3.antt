@@ -1,10 +1,8 @@
 -- What stands on the pages, and demand 3 there.
 use Prim.Native.Nat.{ℕ, _+_, _*_, _/_, _%_, _≤_, _<_}
-use mathlib.Core.Bool.{true, false}
 use mathlib.Core.Path.{_≡_}
-use mathlib.Core.List.{List, [], _∷_, map}
-use lib.Dec.{eqb}
-use lib.ListN.{length, getD, take, drop}
+use mathlib.Core.List.{List, [], _∷_}
+use lib.ListN.{length, getD, take}
 use Rattle.site.specs.declared.Site.{Site}
 use Rattle.loads.specs.SiteTerms.{termsOf}
 use Rattle.loads.specs.CriticalLoads.{maxS, minN, maxN, nutN}
@@ -15,32 +13,11 @@ use Rattle.field.specs.Field.{blankSite}
 use Rattle.text.specs.Decimal.{decimal}
 use Rattle.text.specs.Words.{split, lineAt}
 use Rattle.listing.specs.PrintedDemand3.{MarksNeverWorse}
-use Rattle.columns.specs.PageLine.{headLine}
+use Rattle.columns.specs.PageLine.{pageLine, headLine}
+use Rattle.columns.specs.LineRead.{columnsOf, verdictColumn}
 use Rattle.pages.specs.Pages.{pageCount}
 
--- a text cut into pieces of the widths ws
-unfoldable pub cut : List ℕ → List ℕ → List (List ℕ)
-cut [] l = []
-cut (w ∷ ws) l = take w l ∷ cut ws (drop w l)
-
--- a text without its spaces
-unfoldable pub unspaced : List ℕ → List ℕ
-unspaced [] = []
-unspaced (x ∷ xs) = let r = unspaced xs in elim (eqb x 32) [ true ↦ r | false ↦ x ∷ r ]
-
--- name, the four loads, region, the two exceedances, verdict
-abbrev pub columnWidths : List ℕ
-columnWidths = 8 ∷ 8 ∷ 8 ∷ 8 ∷ 8 ∷ 2 ∷ 7 ∷ 7 ∷ 7 ∷ []
-
--- the nine columns of a line, their spaces dropped
-unfoldable pub columnsOf : List ℕ → List (List ℕ)
-columnsOf l = map unspaced (cut columnWidths l)
-
--- the verdict's
-abbrev pub verdictColumn : List ℕ → List ℕ
-verdictColumn l = getD (columnsOf l) 8 []
-
--- what they show of a site, each value whole
+-- what the columns of a site's line show, each value whole
 unfoldable pub shown : Site → List (List ℕ)
 shown s =
     let t = termsOf s in
@@ -60,9 +37,9 @@ onPage p l t = lineAt (60 * p + l) t
 abbrev pub siteLine : ℕ → List ℕ → List ℕ
 siteLine k t = onPage (k / 59) (k % 59 + 1) t
 
--- On the pages t of the sites ss the last page has 1 to 59 sites. There is a line for each page's header and for each site, and nothing behind the last 0A;
--- a line has 64 characters, of which the last is a space. The columns of a site's line show its values, and that of the verdict says whether its
--- balances close.
+-- The sites ss take so many pages that the last has 1 to 59 of them. Their pages t have a line for each page's header and for each site, and nothing
+-- behind the last 0A; a line has 64 characters, of which the last is a space. A site's line is its values in their columns, which show them whole, and
+-- the verdict's says whether the balances close.
 pub record PagesSay (ss : List Site) (t : List ℕ) : Type 0 where
   pub last-page : (length ss ≤ 59 * pageCount (length ss)) × (59 * pageCount (length ss) < length ss + 59)
   pub lines : length (split 10 t) ≡ length ss + pageCount (length ss) + 1
@@ -70,6 +47,7 @@ pub record PagesSay (ss : List Site) (t : List ℕ) : Type 0 where
   pub wide : (i : ℕ) → i < length ss + pageCount (length ss) → length (lineAt i t) ≡ 64
   pub space : (i : ℕ) → i < length ss + pageCount (length ss) → getD (lineAt i t) 63 0 ≡ 32
   pub header : (p : ℕ) → p < pageCount (length ss) → onPage p 0 t ≡ headLine
+  pub placed : (k : ℕ) → k < length ss → siteLine k t ≡ pageLine (shown (getD ss k blankSite))
   pub values : (k : ℕ) → k < length ss → columnsOf (siteLine k t) ≡ shown (getD ss k blankSite)
   pub says : (k : ℕ) → k < length ss → Says (verdictColumn (siteLine k t)) (getD ss k blankSite)
 

@@ -4,6 +4,7 @@ pub mod BelowLaws
 pub mod MatchLaws
 pub mod Passing
 pub mod PartLaws
+pub mod MapLaws
 pub mod StandLaws
 pub mod LengthLaws
 pub mod FieldLaws

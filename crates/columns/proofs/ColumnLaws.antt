@@ -9,9 +9,9 @@ use lib.Seq.{take-all, take-append-seam, drop-append-seam}
 use Rattle.output.specs.Writing.{each}
 use Rattle.text.specs.Words.{free}
 use Rattle.text.proofs.WordLaws.{free-false}
 use Rattle.columns.specs.PageLine.{leftIn, rightIn, inColumns, pageLine}
-use Rattle.pages.specs.PagesDemand3.{cut, unspaced, columnWidths, columnsOf}
+use Rattle.columns.specs.LineRead.{cut, unspaced, columnWidths, columnsOf}
 use Rattle.columns.proofs.PageLineLaws.{length-left, length-right}
 
 -- ---- spaces dropped
 
