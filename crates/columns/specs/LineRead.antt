@@ -3,7 +3,7 @@ use Prim.Native.Nat.{ℕ}
 use mathlib.Core.Bool.{true, false}
 use mathlib.Core.List.{List, [], _∷_, map}
 use lib.Dec.{eqb}
-use lib.ListN.{getD, take, drop}
+use lib.ListN.{take, drop}
 
 -- a text cut into pieces of the widths ws
 unfoldable pub cut : List ℕ → List ℕ → List (List ℕ)
@@ -22,7 +22,3 @@ columnWidths = 8 ∷ 8 ∷ 8 ∷ 8 ∷ 8 ∷ 2 ∷ 7 ∷ 7 ∷ 7 ∷ []
 -- the nine columns of a line, their spaces dropped
 unfoldable pub columnsOf : List ℕ → List (List ℕ)
 columnsOf l = map unspaced (cut columnWidths l)
-
--- the verdict's
-abbrev pub verdictColumn : List ℕ → List ℕ
-verdictColumn l = getD (columnsOf l) 8 []

@@ -38,9 +38,9 @@ use Rattle.site.proofs.MapLaws.{map-id}
 use Rattle.listing.proofs.Demand3Laws.{passed, row-at, plain}
 use Rattle.listing.proofs.ReportLaws.{marks-stay}
 use Rattle.columns.specs.PageLine.{pageLine, headLine, rowLine, ended}
-use Rattle.columns.specs.LineRead.{columnsOf, verdictColumn}
+use Rattle.columns.specs.LineRead.{columnsOf}
 use Rattle.pages.specs.Pages.{linesTo, pageCount, pages, pagesOf, mostPages}
-use Rattle.pages.specs.PagesDemand3.{shown, siteLine, PagesSay, PagesNeverWorse}
+use Rattle.pages.specs.PagesDemand3.{verdictColumn, shown, siteLine, PagesSay, PagesNeverWorse}
 use Rattle.columns.proofs.PageLineLaws.{length-page-line, last-space, length-ended, length-head, length-row, free-head, free-row}
 use Rattle.pages.proofs.PageLaws.{length-lines, header-at, site-at, lines-start, lines-under}
 use Rattle.pages.proofs.SiteColumns.{row-shown, line-shows}

@@ -14,8 +14,12 @@ use Rattle.text.specs.Decimal.{decimal}
 use Rattle.text.specs.Words.{split, lineAt}
 use Rattle.listing.specs.PrintedDemand3.{MarksNeverWorse}
 use Rattle.columns.specs.PageLine.{pageLine, headLine}
-use Rattle.columns.specs.LineRead.{columnsOf, verdictColumn}
+use Rattle.columns.specs.LineRead.{columnsOf}
 use Rattle.pages.specs.Pages.{pageCount}
+
+-- the column of the verdict, without its spaces
+abbrev pub verdictColumn : List ℕ → List ℕ
+verdictColumn l = getD (columnsOf l) 8 []
 
 -- what the columns of a site's line show, each value whole
 unfoldable pub shown : Site → List (List ℕ)
