@@ -46,7 +46,7 @@ pub site-name-free : (b : ℕ) → nameByte b ≡ false → (s : Site) → siteR
 unfolding rowOf rowBy nameText valueRule
 site-name-free b n s p = name-free b n _ (ranged-passed _ (site-passed s p 0 (omega arith) .1))
 
-pub no-end : nameByte 10 ≡ false
+no-end : nameByte 10 ≡ false
 unfolding nameByte
 no-end = refl
 

@@ -28,7 +28,7 @@ use Rattle.record.proofs.SiteFile.{sites-fault-near}
 use Rattle.listing.specs.Rows.{rowOf, padded, walkedOf}
 use Rattle.listing.specs.FileText.{fileAnswer, fileNumbers, fileHeld, FileRoom}
 use Rattle.listing.specs.Reports.{listingOf, printed, reportOf}
-use Rattle.listing.specs.PrintedDemand3.{LinesSay, TextSays, WrittenSays, WrittenDemand3}
+use Rattle.listing.specs.PrintedDemand3.{LinesSay, WrittenSays, WrittenDemand3}
 use Rattle.listing.proofs.Demand3Laws.{listing-says}
 
 -- ---- what the walk has found
@@ -76,10 +76,10 @@ module _ (most : ℕ) (text : List Site → List ℕ) (Say : List Site → List 
     enough : FileRoom most text (contents f) d r
     enough ts g = let same : ss ≡ ts = cc in rw (← same) (a .enough)
 
-    pub says-so : TextSays Say f (text ss) → WrittenSays Say f e r
-    says-so says n b ts g = rw (written (text ss) d e r (a .answer) (a .buffer) n b) (says ts g)
+    says-so : Say ss (text ss) → WrittenSays Say f e r
+    says-so says n b ts g = let same : ss ≡ ts = cc in rw (written (text ss) d e r (a .answer) (a .buffer) n b, ← same) says
 
-    pub filed-sites : TextSays Say f (text ss) → FileClauses e r
+    pub filed-sites : Say ss (text ss) → FileClauses e r
     unfolding fileAnswer fileHeld fileNumbers
     filed-sites says = (rw h (a .answer), (rw h (a .buffer), (rw h (a .numbers), (enough, says-so says))))
 
@@ -106,11 +106,8 @@ module _ (most : ℕ) (text : List Site → List ℕ) (Say : List Site → List 
       by-contents (fault k i) q e = let same : i ≡ at = cc in omega (arith, sites-fault-near f q)
 
 -- the listing
-listing-said : (f : List ℕ) (ss : List Site) → contents f ≡ good ss → TextSays LinesSay f (listingOf ss)
-listing-said f ss h ts g = let same : ss ≡ ts = cc in rw same (listing-says f ts g)
-
 pub listed-sites : (f d : List ℕ) {e : List ℕ} {r : Written} (ss : List Site) → contents f ≡ good ss → Answered (listingOf ss) d e r → FileClauses mostText listingOf LinesSay f d e r
-listed-sites f d ss h a = filed-sites mostText listingOf LinesSay f d ss h a (listing-said f ss h)
+listed-sites f d ss h a = filed-sites mostText listingOf LinesSay f d ss h a (listing-says f ss h)
 
 -- ---- the report
 
@@ -123,7 +120,7 @@ reported f d a w = clauses-then a w
 
 pub reported-sites : (f d : List ℕ) {e : List ℕ} {r : Written} (ss : List Site) → contents f ≡ good ss → Answered (listing (map rowOf ss)) d e r → Reported f d e r
 unfolding reportOf printed
-reported-sites f d ss h a = reported f d (rw h a) (says-so mostText listingOf LinesSay f d ss h a (listing-said f ss h))
+reported-sites f d ss h a = reported f d (rw h a) (says-so mostText listingOf LinesSay f d ss h a (listing-says f ss h))
 
 pub reported-fault : (f d : List ℕ) {e : List ℕ} {r : Written} {rule : Rule} {at : ℕ} → contents f ≡ fault rule at → Clauses (refusal rule at) d e r (RoomEnough (refusal rule at) d r) → Reported f d e r
 unfolding reportOf printed

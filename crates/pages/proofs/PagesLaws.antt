@@ -213,11 +213,8 @@ pages-stay f x g y df dg = marks-stay (λ (k : ℕ) (t : List ℕ). verdictColum
 -- ---- the clauses of the call
 
 module _ (f : List ℕ) (bytes : AllBytes f) (d : List ℕ) (ss : List Site) (h : contents f ≡ good ss) where
-  said : TextSays PagesSay f (pagesOf ss)
-  said ts g = let same : ss ≡ ts = cc in rw same (pages-say f bytes ts g)
-
   most-is : length (pagesOf ss) ≤ mostPages
   most-is = omega (arith, length-pages (map rowOf ss), length-map ss rowOf, sites-checked f ss h .0)
 
   pub paged : {e : List ℕ} {r : Written} → r ≡ textAnswer (pagesOf ss) d → e ≡ held (pagesOf ss) d → FileClauses mostPages pagesOf PagesSay f d e r
-  paged a b = filed-sites mostPages pagesOf PagesSay f d ss h (answered (pagesOf ss) d a b most-is) said
+  paged a b = filed-sites mostPages pagesOf PagesSay f d ss h (answered (pagesOf ss) d a b most-is) (pages-say f bytes ss h)
