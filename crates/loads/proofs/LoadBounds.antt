@@ -13,9 +13,10 @@ use Rattle.loads.specs.Terms.{Terms}
 use Rattle.loads.specs.SiteTerms.{termsOf}
 use Rattle.loads.specs.CriticalLoads.{maxS, minN, maxN, nutN}
 use Rattle.loads.proofs.Numbers.{prod, quotient-le}
-use Rattle.loads.proofs.Tables.{undenitrified-least, nitrogen-content-le}
+use Rattle.loads.proofs.Tables.{nitrogen-content-le}
+use Rattle.loads.proofs.DenitrifiedLaws.{undenitrified-least}
 use Rattle.loads.proofs.UptakeLaws.{sum-none, sum-more}
-use Rattle.loads.proofs.SiteTermLaws.{term-bounds, undenitrified-is, leaching-is, minN-plain}
+use Rattle.loads.proofs.SiteTermLaws.{term-bounds, leaching-is, minN-plain}
 use Rattle.loads.proofs.TermLaws.{maxS-le}
 
 pub record LoadBounds (t : Terms) : Type 0 where
@@ -34,9 +35,6 @@ sum-le l (suc n) h =
     omega (arith, sum-more nitrogenIn l n, sum-le l n (λ i b. h i (omega arith)), weight-le (getD l n noEntry) (h n (omega arith)))
 
 module _ (s : Site) (b : Bounds s) where
-  e-le : leastE ≤ termsOf s .e
-  e-le = omega (arith, undenitrified-is s, undenitrified-least (s .drainage) (b .drainage))
-
   L-le : termsOf s .L ≤ mostL
   L-le =
       let p = prod (percolationRange .most) (leachateRange .most) (b .percolation) (b .leachate) in
@@ -47,7 +45,7 @@ module _ (s : Site) (b : Bounds s) where
 
   -- a thousandfold, by e
   part-le : (x most : ℕ) → x ≤ most → 1000 * x / termsOf s .e ≤ 1000 * most / leastE
-  part-le x most h = quotient-le (1000 * x) (termsOf s .e) leastE (1000 * most / leastE) e-le (omega arith)
+  part-le x most h = quotient-le (1000 * x) (termsOf s .e) leastE (1000 * most / leastE) (undenitrified-least s) (omega arith)
 
   pub load-bounds : LoadBounds (termsOf s)
   unfolding maxN nutN

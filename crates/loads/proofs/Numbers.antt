@@ -1,7 +1,9 @@
--- Laws of products and quotients.
+-- Laws of products, quotients and choices.
 use Prim.Native.Nat.{ℕ, suc, _+_, _*_, _-_, _/_, _≤_, _<_}
+use mathlib.Core.Bool.{Bool, true, false}
 use native.Mathlib.Omega.{arith}
 use native.Mathlib.Nat.{mul-comm, mul-le-mul, mul-le-mul-left, mul-le-mul-right, le-trans, le-div-iff-mul-le, div-mul-le-self, div-le-of-le-mul, div-lt-iff-lt-mul}
+use Rattle.site.specs.Choice.{pick}
 use Rattle.loads.specs.Rounding.{up}
 
 -- a product of bounded factors; the bounds are written, so that `omega` can show a factor's bound
@@ -30,3 +32,8 @@ unfolding up
 up-enough x d p =
     let z : x + (d - 1) < suc (up x d) * d = div-lt-iff-lt-mul p .0 (omega arith) in
     omega arith
+
+-- a choice of two bounded numbers
+pub pick-le : {x y k : ℕ} (b : Bool) → x ≤ k → y ≤ k → pick b x y ≤ k
+pick-le true h i = h
+pick-le false h i = i

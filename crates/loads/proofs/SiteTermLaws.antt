@@ -1,33 +1,28 @@
 -- The terms of a site by its values, and their bounds where the site passes the check.
 use Prim.Native.Nat.{ℕ, _+_, _*_, _-_, _/_, _≤_, min}
-use mathlib.Core.Bool.{Bool, true, false}
 use mathlib.Core.Path.{_≡_, refl}
 use native.Mathlib.Omega.{arith}
 use native.Mathlib.Nat.{mul-le-mul}
-use lib.Dec.{eqb}
 use Rattle.site.specs.Ranges.{depthRange, availableRange}
-use Rattle.site.specs.Choice.{pick}
 use Rattle.site.specs.Bounds.{Bounds}
 use Rattle.site.specs.declared.Site.{Site}
 use Rattle.loads.specs.Rounding.{up}
 use Rattle.loads.specs.MostTerms.{mostWeathering, mostAvailable, mostA}
+use Rattle.loads.specs.ParentMaterial.{organic}
 use Rattle.loads.specs.Texture.{textureOf}
 use Rattle.loads.specs.Weathering.{classOf, weatheringOf, weathering, availableOf, availableWeathering}
 use Rattle.loads.specs.Uptake.{baseIn, nitrogenIn, standSum, uptakeDivisor, nitrogenUptake, baseDemand, baseUptakeOf, baseUptake}
 use Rattle.loads.specs.Supply.{baseSupply, limitOf, aluminiumLimit}
 use Rattle.loads.specs.Hydrogen.{hydrogen, aluminium, greatestLevel, criticalLeaching}
-use Rattle.loads.specs.Nitrogen.{undenitrified, undenitrifiedOf, leachingOf, leaching}
+use Rattle.loads.specs.Nitrogen.{leachingOf, leaching}
 use Rattle.loads.specs.Terms.{TermBounds}
 use Rattle.loads.specs.SiteTerms.{termsOf}
 use Rattle.loads.specs.CriticalLoads.{maxS, minN}
 use Rattle.loads.specs.LoadsConditions.{acidLoad}
-use Rattle.loads.proofs.Numbers.{prod, part-le, quotient-le}
-use Rattle.loads.proofs.Tables.{class-le, undenitrified-le, undenitrified-pos}
+use Rattle.loads.proofs.Numbers.{prod, part-le, quotient-le, pick-le}
+use Rattle.loads.proofs.Tables.{class-le}
 use Rattle.loads.proofs.TextureLaws.{texture-between}
-
-pick-le : {x y k : ℕ} (b : Bool) → x ≤ k → y ≤ k → pick b x y ≤ k
-pick-le true h i = h
-pick-le false h i = i
+use Rattle.loads.proofs.DenitrifiedLaws.{undenitrified-least, undenitrified-most}
 
 module _ (s : Site) where
   pub weathering-is : weathering s ≡ weatheringOf (s .parent) (s .clay) (s .sand) (s .depth)
@@ -53,10 +48,6 @@ module _ (s : Site) where
   limit-is : termsOf s .A ≡ limitOf ((s .«base_deposition») + availableWeathering s - baseUptake s) (s .ratio)
   unfolding termsOf aluminiumLimit
   limit-is = refl
-
-  pub undenitrified-is : termsOf s .e ≡ undenitrifiedOf (s .drainage)
-  unfolding termsOf undenitrified
-  undenitrified-is = refl
 
   pub leaching-is : termsOf s .L ≡ leachingOf (s .percolation) (s .leachate)
   unfolding termsOf leaching
@@ -89,7 +80,7 @@ module _ (s : Site) (b : Bounds s) where
       let t = texture-between (s .clay) (s .sand) in
       let k = class-le (s .parent) (textureOf (s .clay) (s .sand)) (b .parent) (t .0) (t .1) in
       let whole : (500 * classOf (s .parent) (textureOf (s .clay) (s .sand)) - 250) * (s .depth) ≤ 9750 * depthRange .most = prod 9750 (depthRange .most) (omega arith) (b .depth) in
-      pick-le (eqb (s .parent) 0) (omega arith) (omega arith)
+      pick-le (organic (s .parent)) (omega arith) (omega arith)
 
   available-within : availableWeathering s ≤ weathering s
   available-within = rw (available-is s) (part-le (weathering s) (s .available) (omega (arith, b .available)))
@@ -118,6 +109,6 @@ module _ (s : Site) (b : Bounds s) where
     A-le = limited;
     Q-le = b .percolation;
     H-le = b .ceiling;
-    e-least = rw (undenitrified-is s) (undenitrified-pos (s .drainage) (b .drainage));
-    e-most = rw (undenitrified-is s) (undenitrified-le (s .drainage));
+    e-least = omega (arith, undenitrified-least s);
+    e-most = undenitrified-most s;
   }

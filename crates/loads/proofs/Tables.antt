@@ -2,17 +2,17 @@
 use Prim.Native.Nat.{ℕ, _+_, _-_, _≤_, _<_}
 use mathlib.Core.Bool.{Bool, true, _&&_, _||_}
 use mathlib.Core.Path.{_≡_, refl}
+use mathlib.Core.Logic.{⊎-elim}
 use mathlib.Core.List.{[], _∷_}
 use native.Mathlib.Omega.{arith}
 use borrow.Author.Tests.{leb-true, ne-eqb}
 use lib.Dec.{leb, eqb}
 use lib.ListN.{List·getD-eq-default}
-use Rattle.site.proofs.Tests.{and-l, and-r}
+use Rattle.site.proofs.Tests.{le-or-lt, and-l, and-r}
 use Rattle.site.proofs.BelowLaws.{allBelow, one-below}
 use Rattle.loads.specs.Weathering.{classOf}
-use Rattle.loads.specs.Nitrogen.{denitrified, undenitrifiedOf}
+use Rattle.loads.specs.Nitrogen.{denitrifiedIn}
 use Rattle.loads.specs.Uptake.{content, nitrogenIn}
-use Rattle.loads.specs.MostTerms.{leastE}
 
 -- class k is 20 at most, and 1 at least where the parent material is not organic
 abbrev classTest : ℕ → ℕ → Bool
@@ -32,28 +32,17 @@ class-pos p t h n i j =
     let here : eqb p 0 || leb 1 (classOf p t) ≡ true = and-r (leb (classOf p t) 20) _ (class-tested p t h i j) in
     leb-true 1 (classOf p t) (rw (ne-eqb p 0 n) at here)
 
-pub undenitrified-le : (d : ℕ) → undenitrifiedOf d ≤ 1000
-unfolding undenitrifiedOf
-undenitrified-le d = omega arith
-
-pub undenitrified-least : (d : ℕ) → d ≤ 5 → leastE ≤ undenitrifiedOf d
-unfolding undenitrifiedOf denitrified
-undenitrified-least d h = leb-true _ _ (one-below (λ d. leb leastE (undenitrifiedOf d)) 6 refl d (omega arith))
-
-pub undenitrified-pos : (d : ℕ) → d ≤ 5 → 1 ≤ undenitrifiedOf d
-undenitrified-pos d h = omega (arith, undenitrified-least d h)
-
 -- contents have two bytes
 pub nitrogen-content-le : (x : ℕ) → x ≤ 8 → nitrogenIn x ≤ 65535
 unfolding nitrogenIn content
 nitrogen-content-le x h = leb-true _ _ (one-below (λ x. leb (nitrogenIn x) 65535) 9 refl x (omega arith))
 
--- d is 1000 at most, so e = 1000 − d is not cut off
-pub denitrified-le : (d : ℕ) → d ≤ 5 → denitrified d ≤ 1000
-unfolding denitrified
-denitrified-le d h = leb-true _ _ (one-below (λ d. leb (denitrified d) 1000) 6 refl d (omega arith))
-
 -- past the table nothing is denitrified
-pub denitrified-none : (d : ℕ) → 5 < d → denitrified d ≡ 0
-unfolding denitrified
-denitrified-none d h = List·getD-eq-default {A = ℕ} (0 ∷ 100 ∷ 200 ∷ 400 ∷ 700 ∷ 800 ∷ []) 0 {n = d} (omega arith)
+pub denitrifiedIn-none : (d : ℕ) → 5 < d → denitrifiedIn d ≡ 0
+denitrifiedIn-none d h = List·getD-eq-default {A = ℕ} (0 ∷ 100 ∷ 200 ∷ 400 ∷ 700 ∷ 800 ∷ []) 0 {n = d} (omega arith)
+
+pub denitrifiedIn-le : (d : ℕ) → denitrifiedIn d ≤ 800
+denitrifiedIn-le d =
+    ⊎-elim (λ (h : d ≤ 5). leb-true _ _ (one-below (λ d. leb (denitrifiedIn d) 800) 6 refl d (omega arith)))
+    (λ (h : 5 < d). omega (arith, denitrifiedIn-none d h))
+    (le-or-lt d 5)

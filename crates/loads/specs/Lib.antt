@@ -1,6 +1,7 @@
 pub mod Rounding
 pub mod MostTerms
 pub mod Terms
+pub mod ParentMaterial
 pub mod Texture
 pub mod Weathering
 pub mod Uptake

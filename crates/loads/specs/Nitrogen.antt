@@ -2,18 +2,24 @@
 use Prim.Native.Nat.{ℕ, _*_, _-_, _/_}
 use mathlib.Core.List.{[], _∷_}
 use lib.ListN.{getD}
+use Rattle.site.specs.Choice.{pick}
 use Rattle.site.specs.declared.Site.{Site}
+use Rattle.loads.specs.ParentMaterial.{organic}
 
--- d, per mille, by drainage 0 to 5
-unfoldable pub denitrified : ℕ → ℕ
-denitrified drainage = getD (0 ∷ 100 ∷ 200 ∷ 400 ∷ 700 ∷ 800 ∷ []) drainage 0
+-- by drainage 0 to 5
+abbrev pub denitrifiedIn : (drainage : ℕ) → ℕ
+denitrifiedIn drainage = getD (0 ∷ 100 ∷ 200 ∷ 400 ∷ 700 ∷ 800 ∷ []) drainage 0
+
+-- d, per mille: of organic parent material 800 at every drainage (E2)
+unfoldable pub denitrified : (parent drainage : ℕ) → ℕ
+denitrified parent drainage = pick (organic parent) 800 (denitrifiedIn drainage)
 
 -- e = 1000 − d
-unfoldable pub undenitrifiedOf : ℕ → ℕ
-undenitrifiedOf drainage = 1000 - denitrified drainage
+unfoldable pub undenitrifiedOf : (parent drainage : ℕ) → ℕ
+undenitrifiedOf parent drainage = 1000 - denitrified parent drainage
 
 unfoldable pub undenitrified : Site → ℕ
-undenitrified s = undenitrifiedOf (s .drainage)
+undenitrified s = undenitrifiedOf (s .parent) (s .drainage)
 
 -- L
 abbrev pub leachingOf : (q c : ℕ) → ℕ

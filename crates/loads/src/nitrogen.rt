@@ -3,38 +3,41 @@ ghost use mathlib.Core.Path.{_≡_};
 ghost use Prim.Native.Nat.{_≤_};
 ghost use Rattle.site.specs.Ranges.{drainageRange, percolationRange, leachateRange};
 ghost use Rattle.loads.specs.MostTerms.{mostL};
-ghost use Rattle.loads.specs.Nitrogen.{denitrified, undenitrifiedOf, leachingOf};
+ghost use Rattle.loads.specs.Nitrogen.{denitrifiedIn, denitrified, leachingOf};
 ghost use Rattle.loads.specs.SiteTerms.{termsOf};
 use numbers::wide;
 use numbers::wide16;
 use site::Site;
 
-// d, per mille, by drainage.
+// By drainage 0 to 5.
 const DENITRIFIED: [u16; 6] = [0, 100, 200, 400, 700, 800];
 
 fn denitrified_in(drainage: usize) -> u64
     requires { ⌜ drainage ≤ drainageRange .most ⌝ }
-    ensures { λ r. ⌜ (r ≡ denitrified drainage) × (r ≤ 1000) ⌝ }
+    ensures { λ r. ⌜ r ≡ denitrifiedIn drainage ⌝ }
 {
     wide16(DENITRIFIED[drainage])
 }
 
-// e, per mille. No site that passes has a drainage past the classes; there the definition takes d as 0.
-fn undenitrified_of(drainage: u8) -> u64
-    ensures { λ r. ⌜ r ≡ undenitrifiedOf drainage ⌝ }
+// d, per mille. No site that passes has a drainage past the classes; there the definition takes d as 0 in mineral soils.
+fn denitrified_of(parent: u8, drainage: u8) -> u64
+    ensures { λ r. ⌜ r ≡ denitrified parent drainage ⌝ }
 {
+    if parent == 0 {
+        return 800;
+    }
     let class = wide(drainage);
     if 5 < class {
-        return 1000;
+        return 0;
     }
-    1000 - denitrified_in(class)
+    denitrified_in(class)
 }
 
 // e at a site
 pub fn undenitrified_at(s: Site) -> u64
     ensures { λ r. ⌜ r ≡ termsOf s .e ⌝ }
 {
-    undenitrified_of(s.drainage)
+    1000 - denitrified_of(s.parent, s.drainage)
 }
 
 // L

@@ -14,9 +14,6 @@ const CONTENTS: [[i64; 4]; 9] = [
     [8483, 2470, 3330, 9995],
 ];
 
-/// Denitrified part by drainage, per mille.
-const DENITRIFIED: [i64; 6] = [0, 100, 200, 400, 700, 800];
-
 /// The terms of a site. Fluxes in eq ha⁻¹ a⁻¹.
 #[derive(Clone, Copy, Debug, PartialEq, Eq)]
 pub struct Terms {
@@ -75,6 +72,14 @@ fn weathering(site: &Site) -> i64 {
         _ => 20,
     };
     (500 * class - 250) * i64::from(site.root_depth) / 100
+}
+
+/// d, the denitrified part, per mille: by drainage, and 800 for organic parent material at every drainage.
+fn denitrified(site: &Site) -> i64 {
+    match (site.parent_material, site.drainage) {
+        (0, _) => 800,
+        (_, drainage) => [0, 100, 200, 400, 700, 800][usize::from(drainage)],
+    }
 }
 
 /// Nu and the demand for base cations.
@@ -147,7 +152,7 @@ impl Terms {
             aluminium_limit,
             level,
             acid_leaching: hydrogen(site, level) + aluminium(site, level),
-            left: 1000 - DENITRIFIED[usize::from(site.drainage)],
+            left: 1000 - denitrified(site),
             leaching: percolation * i64::from(site.leachate_nitrogen) / 100,
         }
     }

@@ -289,12 +289,39 @@ fn weathering_by_parent_material_and_texture() {
 
 #[test]
 fn denitrification_by_drainage() {
-    // CLnutN is 205 plus 40,000 / e, down.
-    for (drainage, expected) in (0..).zip([245, 249, 255, 271, 338, 405]) {
-        let site = Site {
+    // CLnutN is 205 plus 40,000 / e, down, for every parent material but organic.
+    for parent_material in 1..=4 {
+        for (drainage, expected) in (0..).zip([245, 249, 255, 271, 338, 405]) {
+            let site = Site {
+                parent_material,
+                drainage,
+                ..a1_site()
+            };
+            assert_eq!(loads(&site).unwrap().nut_n, expected);
+        }
+    }
+}
+
+#[test]
+fn peat_denitrifies_alike_at_every_drainage() {
+    // W 0, Bu 181, A 178, h 668, M 133 + 178, L 40, and e = 200: both quotients are whole.
+    let expected = Loads {
+        max_s: 430,
+        min_n: 205,
+        max_n: 205 + 2150,
+        nut_n: 205 + 200,
+    };
+    for drainage in 0..6 {
+        let peat = |nitrogen| Site {
+            parent_material: 0,
             drainage,
+            sulphur: 390,
+            nitrogen,
             ..a1_site()
         };
-        assert_eq!(loads(&site).unwrap().nut_n, expected);
+        assert_eq!(loads(&peat(405)), Ok(expected));
+        // 390,000 + 200 × 200 is 1000 × CLmaxS, and 200 × 200 is 1000 × L.
+        assert_eq!(judge(&peat(405)).unwrap().verdict, Verdict::Within);
+        assert_ne!(judge(&peat(406)).unwrap().verdict, Verdict::Within);
     }
 }

@@ -1,7 +1,3 @@
-use mathlib.Core.Path.{refl}
-use native.Mathlib.Omega.{arith}
-use Rattle.loads.specs.Nitrogen.{denitrified}
-use Rattle.loads.proofs.Tables.{denitrified-le}
 use borrow.Author.Needs.{needs}
 use Rattle.loads.proofs.nitrogen.denitrified_in.Statement.{statement}
 use Rattle.loads.proofs.nitrogen.denitrified_in.Tie as tie
@@ -16,8 +12,7 @@ wide16-requires : tie.Need-wide16-requires
 wide16-requires c κs = search needs
 
 returns : tie.Need-returns
-unfolding denitrified
-returns c = rw (c .wide16 .ensures .0) (refl, denitrified-le (c .before .args .drainage) (omega arith))
+returns c = c .wide16 .ensures .0
 
 pub denitrified-in-spec : {M : Type 1} → statement M
 denitrified-in-spec = tie.close (tie.spec mul-wide16 array-read-wide16 wide16-requires returns)

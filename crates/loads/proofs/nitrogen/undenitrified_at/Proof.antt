@@ -1,14 +1,19 @@
-use mathlib.Core.Path.{sym, _∙_}
-use Rattle.loads.proofs.SiteTermLaws.{undenitrified-is}
+use native.Mathlib.Omega.{arith}
+use Rattle.loads.proofs.DenitrifiedLaws.{denitrified-le, undenitrified-is}
 use borrow.Author.Needs.{needs}
 use Rattle.loads.proofs.nitrogen.undenitrified_at.Statement.{statement}
 use Rattle.loads.proofs.nitrogen.undenitrified_at.Tie as tie
 
-undenitrified-of-requires : tie.Need-undenitrified-of-requires
-undenitrified-of-requires c κs = search needs
+denitrified-of-requires : tie.Need-denitrified-of-requires
+denitrified-of-requires c κs = search needs
+
+sub-result : tie.Need-sub-result
+sub-result c =
+    let s = c .before .args .s in
+    omega (arith, c .denitrified-of .ensures, denitrified-le (s .parent) (s .drainage))
 
 returns : tie.Need-returns
-returns c = c .undenitrified-of .ensures ∙ sym (undenitrified-is (c .before .args .s))
+returns c = rw (undenitrified-is (c .before .args .s), c .denitrified-of .ensures)
 
 pub undenitrified-at-spec : {M : Type 1} → statement M
-undenitrified-at-spec = tie.close (tie.spec undenitrified-of-requires returns)
+undenitrified-at-spec = tie.close (tie.spec denitrified-of-requires sub-result returns)

@@ -67,6 +67,8 @@ pub struct Tally {
     fault_after_a_page: u64,
     parent_materials: [u64; 5],
     drainages: [u64; 6],
+    /// Organic parent material by drainage.
+    peat: [u64; 6],
     species: [u64; 9],
     hydrogen_bound: u64,
     aluminium_bound: u64,
@@ -134,6 +136,9 @@ impl Tally {
         self.verdict(JUDGE, numbers[4] as usize, numbers[7] == 1);
         self.parent_materials[usize::from(site.parent_material)] += 1;
         self.drainages[usize::from(site.drainage)] += 1;
+        if site.parent_material == 0 {
+            self.peat[usize::from(site.drainage)] += 1;
+        }
         for entry in &site.stand[..usize::from(site.entries)] {
             self.species[usize::from(entry.species)] += 1;
         }
@@ -189,6 +194,11 @@ impl Tally {
             (0..)
                 .map(|drainage| format!("drainage {drainage}"))
                 .zip(self.drainages),
+        );
+        kinds.extend(
+            (0..)
+                .map(|drainage| format!("peat, drainage {drainage}"))
+                .zip(self.peat),
         );
         kinds.extend(SPECIES.map(named).into_iter().zip(self.species));
         kinds.push((named("hydrogen-bound"), self.hydrogen_bound));
