@@ -11,7 +11,7 @@ use Rattle.loads.specs.ParentMaterial.{organic}
 use Rattle.loads.specs.Nitrogen.{denitrified, undenitrifiedOf, undenitrified}
 use Rattle.loads.specs.SiteTerms.{termsOf}
 use Rattle.loads.proofs.Numbers.{pick-le}
-use Rattle.loads.proofs.Tables.{denitrifiedIn-le}
+use Rattle.loads.proofs.Tables.{drainage-part-le}
 
 -- organic parent material: 800 per mille at every drainage
 pub organic-part : (parent drainage : ℕ) → parent ≡ 0 → denitrified parent drainage ≡ 800
@@ -28,7 +28,7 @@ mineral-part parent drainage h = rw (ne-eqb parent 0 h)
 -- so 1000 − d is not cut off
 pub denitrified-le : (parent drainage : ℕ) → denitrified parent drainage ≤ 800
 unfolding denitrified
-denitrified-le parent drainage = pick-le (organic parent) (omega arith) (denitrifiedIn-le drainage)
+denitrified-le parent drainage = pick-le (organic parent) (omega arith) (drainage-part-le drainage)
 
 module _ (s : Site) where
   pub undenitrified-is : termsOf s .e ≡ 1000 - denitrified (s .parent) (s .drainage)

@@ -3,15 +3,14 @@ use Prim.Native.Nat.{ℕ, _+_, _-_, _≤_, _<_}
 use mathlib.Core.Bool.{Bool, true, _&&_, _||_}
 use mathlib.Core.Path.{_≡_, refl}
 use mathlib.Core.Logic.{⊎-elim}
-use mathlib.Core.List.{[], _∷_}
 use native.Mathlib.Omega.{arith}
 use borrow.Author.Tests.{leb-true, ne-eqb}
 use lib.Dec.{leb, eqb}
-use lib.ListN.{List·getD-eq-default}
+use lib.ListN.{getD, List·getD-eq-default}
 use Rattle.site.proofs.Tests.{le-or-lt, and-l, and-r}
 use Rattle.site.proofs.BelowLaws.{allBelow, one-below}
 use Rattle.loads.specs.Weathering.{classOf}
-use Rattle.loads.specs.Nitrogen.{denitrifiedIn}
+use Rattle.loads.specs.Nitrogen.{drainageParts}
 use Rattle.loads.specs.Uptake.{content, nitrogenIn}
 
 -- class k is 20 at most, and 1 at least where the parent material is not organic
@@ -38,11 +37,11 @@ unfolding nitrogenIn content
 nitrogen-content-le x h = leb-true _ _ (one-below (λ x. leb (nitrogenIn x) 65535) 9 refl x (omega arith))
 
 -- past the table nothing is denitrified
-pub denitrifiedIn-none : (d : ℕ) → 5 < d → denitrifiedIn d ≡ 0
-denitrifiedIn-none d h = List·getD-eq-default {A = ℕ} (0 ∷ 100 ∷ 200 ∷ 400 ∷ 700 ∷ 800 ∷ []) 0 {n = d} (omega arith)
+pub drainage-part-none : (d : ℕ) → 5 < d → getD drainageParts d 0 ≡ 0
+drainage-part-none d h = List·getD-eq-default {A = ℕ} drainageParts 0 {n = d} (omega arith)
 
-pub denitrifiedIn-le : (d : ℕ) → denitrifiedIn d ≤ 800
-denitrifiedIn-le d =
-    ⊎-elim (λ (h : d ≤ 5). leb-true _ _ (one-below (λ d. leb (denitrifiedIn d) 800) 6 refl d (omega arith)))
-    (λ (h : 5 < d). omega (arith, denitrifiedIn-none d h))
+pub drainage-part-le : (d : ℕ) → getD drainageParts d 0 ≤ 800
+drainage-part-le d =
+    ⊎-elim (λ (h : d ≤ 5). leb-true _ _ (one-below (λ d. leb (getD drainageParts d 0) 800) 6 refl d (omega arith)))
+    (λ (h : 5 < d). omega (arith, drainage-part-none d h))
     (le-or-lt d 5)

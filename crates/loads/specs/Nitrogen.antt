@@ -1,18 +1,18 @@
 -- Denitrification, and the acceptable leaching of nitrogen.
 use Prim.Native.Nat.{ℕ, _*_, _-_, _/_}
-use mathlib.Core.List.{[], _∷_}
+use mathlib.Core.List.{List, [], _∷_}
 use lib.ListN.{getD}
 use Rattle.site.specs.Choice.{pick}
 use Rattle.site.specs.declared.Site.{Site}
 use Rattle.loads.specs.ParentMaterial.{organic}
 
--- by drainage 0 to 5
-abbrev pub denitrifiedIn : (drainage : ℕ) → ℕ
-denitrifiedIn drainage = getD (0 ∷ 100 ∷ 200 ∷ 400 ∷ 700 ∷ 800 ∷ []) drainage 0
+-- d by drainage 0 to 5, per mille
+abbrev pub drainageParts : List ℕ
+drainageParts = 0 ∷ 100 ∷ 200 ∷ 400 ∷ 700 ∷ 800 ∷ []
 
--- d, per mille: of organic parent material 800 at every drainage (E2)
+-- d: 800 for organic parent material at every drainage (document 02, E2)
 unfoldable pub denitrified : (parent drainage : ℕ) → ℕ
-denitrified parent drainage = pick (organic parent) 800 (denitrifiedIn drainage)
+denitrified parent drainage = pick (organic parent) 800 (getD drainageParts drainage 0)
 
 -- e = 1000 − d
 unfoldable pub undenitrifiedOf : (parent drainage : ℕ) → ℕ

@@ -1,25 +1,26 @@
 // The part of nitrogen that is not denitrified, and the acceptable leaching.
 ghost use mathlib.Core.Path.{_≡_};
 ghost use Prim.Native.Nat.{_≤_};
+ghost use lib.ListN.{getD};
 ghost use Rattle.site.specs.Ranges.{drainageRange, percolationRange, leachateRange};
 ghost use Rattle.loads.specs.MostTerms.{mostL};
-ghost use Rattle.loads.specs.Nitrogen.{denitrifiedIn, denitrified, leachingOf};
+ghost use Rattle.loads.specs.Nitrogen.{drainageParts, denitrified, leachingOf};
 ghost use Rattle.loads.specs.SiteTerms.{termsOf};
 use numbers::wide;
 use numbers::wide16;
 use site::Site;
 
-// By drainage 0 to 5.
+// d by drainage 0 to 5, per mille.
 const DENITRIFIED: [u16; 6] = [0, 100, 200, 400, 700, 800];
 
 fn denitrified_in(drainage: usize) -> u64
     requires { ⌜ drainage ≤ drainageRange .most ⌝ }
-    ensures { λ r. ⌜ r ≡ denitrifiedIn drainage ⌝ }
+    ensures { λ r. ⌜ r ≡ getD drainageParts drainage 0 ⌝ }
 {
     wide16(DENITRIFIED[drainage])
 }
 
-// d, per mille. No site that passes has a drainage past the classes; there the definition takes d as 0 in mineral soils.
+// d. No site that passes has a drainage past the classes; there the definition takes d as 0 in mineral soils.
 fn denitrified_of(parent: u8, drainage: u8) -> u64
     ensures { λ r. ⌜ r ≡ denitrified parent drainage ⌝ }
 {

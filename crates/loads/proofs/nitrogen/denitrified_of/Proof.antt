@@ -1,7 +1,7 @@
-use mathlib.Core.Path.{sym, _∙_}
+use mathlib.Core.Path.{sym}
 use native.Mathlib.Omega.{arith}
 use Rattle.loads.proofs.DenitrifiedLaws.{organic-part, mineral-part}
-use Rattle.loads.proofs.Tables.{denitrifiedIn-none}
+use Rattle.loads.proofs.Tables.{drainage-part-none}
 use borrow.Author.Needs.{needs}
 use Rattle.loads.proofs.nitrogen.denitrified_of.Statement.{statement}
 use Rattle.loads.proofs.nitrogen.denitrified_of.Tie as tie
@@ -15,7 +15,7 @@ wide-requires c κs = search needs
 returns-2 : tie.Need-returns-2
 returns-2 c =
     let a = c .before .before .before .args in
-    rw (mineral-part (a .parent) (a .drainage) (c .before .before .if1 .left), denitrifiedIn-none (a .drainage) (omega arith))
+    rw (mineral-part (a .parent) (a .drainage) (c .before .before .if1 .left), drainage-part-none (a .drainage) (omega arith))
 
 denitrified-in-requires : tie.Need-denitrified-in-requires
 denitrified-in-requires c κs = search needs

@@ -1,3 +1,4 @@
+use Prim.Native.Nat.{_≤_}
 use native.Mathlib.Omega.{arith}
 use Rattle.loads.proofs.DenitrifiedLaws.{denitrified-le, undenitrified-is}
 use borrow.Author.Needs.{needs}
@@ -8,9 +9,7 @@ denitrified-of-requires : tie.Need-denitrified-of-requires
 denitrified-of-requires c κs = search needs
 
 sub-result : tie.Need-sub-result
-sub-result c =
-    let s = c .before .args .s in
-    omega (arith, c .denitrified-of .ensures, denitrified-le (s .parent) (s .drainage))
+sub-result c = let h : c .denitrified-of .result ≤ 800 = rw (c .denitrified-of .ensures) (denitrified-le _ _) in omega arith
 
 returns : tie.Need-returns
 returns c = rw (undenitrified-is (c .before .args .s), c .denitrified-of .ensures)
