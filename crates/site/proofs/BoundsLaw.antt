@@ -15,7 +15,7 @@ use Rattle.site.specs.declared.Rule.the-variants.{OutOfRange}
 use Rattle.site.specs.declared.Checked.the-variants.{Passed}
 use Rattle.site.specs.Bounds.{noEntry, EntryBounds, StandBounds, Bounds}
 use Rattle.site.specs.Check.{siteRule}
-use Rattle.site.specs.Ranges.{parentRange, depthRange, drainageRange, percolationRange, mostSpecies, shareRange, mostYield, immobilisationRange, availableRange, baseDepositionRange, ratioRange, gibbsiteRange, ceilingRange, leachateRange}
+use Rattle.site.specs.Ranges.{parentRange, depthRange, percolationRange, mostSpecies, shareRange, mostYield, immobilisationRange, availableRange, baseDepositionRange, ratioRange, gibbsiteRange, ceilingRange, leachateRange}
 use Rattle.site.specs.Values.{due, countRule, itemCount, valueRule, standRule, entryRanged, allOf, inside}
 use Rattle.site.proofs.Tests.{le-or-lt, and-l, and-r}
 use Rattle.site.proofs.Passing.{pass-then, inside-both, between-passed}
@@ -66,7 +66,6 @@ module _ (s : Site) (e : siteRule s ≡ Passed) where
   bounds = record {
     parent = between-passed parentRange (s .parent) (value-at 1 (omega arith)) .1;
     depth = between-passed depthRange (s .depth) (value-at 3 (omega arith)) .1;
-    drainage = between-passed drainageRange (s .drainage) (value-at 4 (omega arith)) .1;
     percolation = between-passed percolationRange (s .percolation) (value-at 5 (omega arith)) .1;
     stand = stand-bounds s (site-passed s e 6 (omega arith) .0) (value-at 6 (omega arith));
     immobilisation = between-passed immobilisationRange (s .immobilisation) (value-at 7 (omega arith)) .1;

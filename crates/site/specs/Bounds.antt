@@ -4,7 +4,7 @@ use mathlib.Core.List.{List}
 use lib.ListN.{getD}
 use Rattle.site.specs.declared.Site.{Site}
 use Rattle.site.specs.declared.Entry.{Entry}
-use Rattle.site.specs.Ranges.{parentRange, depthRange, drainageRange, percolationRange, mostEntries, mostSpecies, shareRange, mostYield, immobilisationRange, availableRange, baseDepositionRange, ratioRange, gibbsiteRange, ceilingRange, leachateRange}
+use Rattle.site.specs.Ranges.{parentRange, depthRange, percolationRange, mostEntries, mostSpecies, shareRange, mostYield, immobilisationRange, availableRange, baseDepositionRange, ratioRange, gibbsiteRange, ceilingRange, leachateRange}
 
 -- what stands past the end of a stand
 abbrev pub noEntry : Entry
@@ -23,7 +23,6 @@ pub record StandBounds (stand : List Entry) (n : ℕ) : Type 0 where
 pub record Bounds (s : Site) : Type 0 where
   pub parent : s .parent ≤ parentRange .most
   pub depth : s .depth ≤ depthRange .most
-  pub drainage : s .drainage ≤ drainageRange .most
   pub percolation : s .percolation ≤ percolationRange .most
   pub stand : StandBounds (s .stand) (s .entries)
   pub immobilisation : s .immobilisation ≤ immobilisationRange .most
