@@ -8,7 +8,7 @@ use Rattle.loads.specs.Weathering.{classOf, weatheringOf, weathering, available
 use Rattle.loads.specs.Uptake.{content, nitrogenIn, baseIn, weightOf, sumOver, standSum, nitrogenUptake, baseDemand, baseUptakeOf, baseUptake}
 use Rattle.loads.specs.Hydrogen.{hydrogenOf, alOf, greatestWhere, levelOf, hydrogen, aluminium, greatestLevel, criticalLeaching}
 use Rattle.loads.specs.Supply.{baseSupply, aluminiumLimit}
-use Rattle.loads.specs.Nitrogen.{denitrified, undenitrifiedOf, undenitrified, leaching}
+use Rattle.loads.specs.Nitrogen.{denitrified, undenitrified, leaching}
 use Rattle.loads.specs.SiteTerms.{termsOf}
 use Rattle.loads.specs.CriticalLoads.{maxS, minN, nutN}
 use Rattle.site.specs.ExampleSite.{a1}
@@ -46,5 +46,5 @@ table =
     ∷ []
 
 agrees : map (λ (r : Case). computed (r .question)) table ≡ map (λ (r : Case). r .given) table
-unfolding table computed termsOf up textureOf classOf weatheringOf weathering availableWeathering content nitrogenIn baseIn weightOf sumOver standSum nitrogenUptake baseDemand baseUptakeOf baseUptake baseSupply aluminiumLimit hydrogenOf alOf greatestWhere levelOf hydrogen aluminium greatestLevel criticalLeaching denitrified undenitrifiedOf undenitrified leaching maxS minN nutN D excess regionOf acidIn acidOf region acidExceedance nutrientExceedance
+unfolding table computed termsOf up textureOf classOf weatheringOf weathering availableWeathering content nitrogenIn baseIn weightOf sumOver standSum nitrogenUptake baseDemand baseUptakeOf baseUptake baseSupply aluminiumLimit hydrogenOf alOf greatestWhere levelOf hydrogen aluminium greatestLevel criticalLeaching denitrified undenitrified leaching maxS minN nutN D excess regionOf acidIn acidOf region acidExceedance nutrientExceedance
 agrees = refl

@@ -1,14 +1,14 @@
 -- The terms of a site by its values, and their bounds where the site passes the check.
-use Prim.Native.Nat.{ℕ, _+_, _*_, _-_, _/_, _≤_, min}
+use Prim.Native.Nat.{_+_, _*_, _-_, _/_, _≤_, min}
 use mathlib.Core.Path.{_≡_, refl}
 use native.Mathlib.Omega.{arith}
 use native.Mathlib.Nat.{mul-le-mul}
+use lib.Dec.{eqb}
 use Rattle.site.specs.Ranges.{depthRange, availableRange}
 use Rattle.site.specs.Bounds.{Bounds}
 use Rattle.site.specs.declared.Site.{Site}
 use Rattle.loads.specs.Rounding.{up}
 use Rattle.loads.specs.MostTerms.{mostWeathering, mostAvailable, mostA}
-use Rattle.loads.specs.ParentMaterial.{organic}
 use Rattle.loads.specs.Texture.{textureOf}
 use Rattle.loads.specs.Weathering.{classOf, weatheringOf, weathering, availableOf, availableWeathering}
 use Rattle.loads.specs.Uptake.{baseIn, nitrogenIn, standSum, uptakeDivisor, nitrogenUptake, baseDemand, baseUptakeOf, baseUptake}
@@ -22,7 +22,7 @@ use Rattle.loads.specs.LoadsConditions.{acidLoad}
 use Rattle.loads.proofs.Numbers.{prod, part-le, quotient-le, pick-le}
 use Rattle.loads.proofs.Tables.{class-le}
 use Rattle.loads.proofs.TextureLaws.{texture-between}
-use Rattle.loads.proofs.DenitrifiedLaws.{undenitrified-least, undenitrified-most}
+use Rattle.loads.proofs.DenitrifiedLaws.{undenitrified-pos, undenitrified-most}
 
 module _ (s : Site) where
   pub weathering-is : weathering s ≡ weatheringOf (s .parent) (s .clay) (s .sand) (s .depth)
@@ -80,7 +80,7 @@ module _ (s : Site) (b : Bounds s) where
       let t = texture-between (s .clay) (s .sand) in
       let k = class-le (s .parent) (textureOf (s .clay) (s .sand)) (b .parent) (t .0) (t .1) in
       let whole : (500 * classOf (s .parent) (textureOf (s .clay) (s .sand)) - 250) * (s .depth) ≤ 9750 * depthRange .most = prod 9750 (depthRange .most) (omega arith) (b .depth) in
-      pick-le (organic (s .parent)) (omega arith) (omega arith)
+      pick-le (eqb (s .parent) 0) (omega arith) (omega arith)
 
   available-within : availableWeathering s ≤ weathering s
   available-within = rw (available-is s) (part-le (weathering s) (s .available) (omega (arith, b .available)))
@@ -109,6 +109,6 @@ module _ (s : Site) (b : Bounds s) where
     A-le = limited;
     Q-le = b .percolation;
     H-le = b .ceiling;
-    e-least = omega (arith, undenitrified-least s);
+    e-least = undenitrified-pos s;
     e-most = undenitrified-most s;
   }

@@ -36,7 +36,7 @@ pub nitrogen-content-le : (x : ℕ) → x ≤ 8 → nitrogenIn x ≤ 65535
 unfolding nitrogenIn content
 nitrogen-content-le x h = leb-true _ _ (one-below (λ x. leb (nitrogenIn x) 65535) 9 refl x (omega arith))
 
--- past the table nothing is denitrified
+-- past the table: 0
 pub drainage-part-none : (d : ℕ) → 5 < d → getD drainageParts d 0 ≡ 0
 drainage-part-none d h = List·getD-eq-default {A = ℕ} drainageParts 0 {n = d} (omega arith)
 

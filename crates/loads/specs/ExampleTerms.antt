@@ -8,7 +8,7 @@ use Rattle.loads.specs.Weathering.{classOf, weatheringOf, weathering, av
 use Rattle.loads.specs.Uptake.{content, nitrogenIn, baseIn, weightOf, sumOver, standSum, nitrogenUptake, baseDemand, baseUptakeOf, baseUptake}
 use Rattle.loads.specs.Hydrogen.{hydrogenOf, alOf, greatestWhere, levelOf, hydrogen, aluminium, greatestLevel, criticalLeaching}
 use Rattle.loads.specs.Supply.{baseSupply, aluminiumLimit}
-use Rattle.loads.specs.Nitrogen.{denitrified, undenitrifiedOf, undenitrified, leaching}
+use Rattle.loads.specs.Nitrogen.{denitrified, undenitrified, leaching}
 use Rattle.loads.specs.Terms.{Terms}
 use Rattle.loads.specs.SiteTerms.{termsOf}
 use Rattle.loads.specs.CriticalLoads.{maxS, minN, maxN, nutN}
@@ -21,5 +21,5 @@ terms :
     weathering a1 ∷ availableWeathering a1 ∷ t1 .Nu ∷ baseUptake a1 ∷ t1 .A ∷ greatestLevel t1
     ∷ aluminium t1 819 ∷ criticalLeaching t1 ∷ t1 .L ∷ maxS t1 ∷ minN t1 ∷ maxN t1 ∷ nutN t1 ∷ []
     ≡ 125 ∷ 100 ∷ 155 ∷ 181 ∷ 328 ∷ 818 ∷ 329 ∷ 491 ∷ 40 ∷ 735 ∷ 205 ∷ 1021 ∷ 249 ∷ []
-unfolding termsOf up textureOf classOf weatheringOf weathering availableWeathering content nitrogenIn baseIn weightOf sumOver standSum nitrogenUptake baseDemand baseUptakeOf baseUptake baseSupply aluminiumLimit hydrogenOf alOf greatestWhere levelOf hydrogen aluminium greatestLevel criticalLeaching denitrified undenitrifiedOf undenitrified leaching maxS minN maxN nutN
+unfolding termsOf up textureOf classOf weatheringOf weathering availableWeathering content nitrogenIn baseIn weightOf sumOver standSum nitrogenUptake baseDemand baseUptakeOf baseUptake baseSupply aluminiumLimit hydrogenOf alOf greatestWhere levelOf hydrogen aluminium greatestLevel criticalLeaching denitrified undenitrified leaching maxS minN maxN nutN
 terms = refl

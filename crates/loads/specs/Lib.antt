@@ -1,7 +1,6 @@
 pub mod Rounding
 pub mod MostTerms
 pub mod Terms
-pub mod ParentMaterial
 pub mod Texture
 pub mod Weathering
 pub mod Uptake

@@ -1,25 +1,22 @@
 -- Denitrification, and the acceptable leaching of nitrogen.
 use Prim.Native.Nat.{ℕ, _*_, _-_, _/_}
 use mathlib.Core.List.{List, [], _∷_}
+use lib.Dec.{eqb}
 use lib.ListN.{getD}
 use Rattle.site.specs.Choice.{pick}
 use Rattle.site.specs.declared.Site.{Site}
-use Rattle.loads.specs.ParentMaterial.{organic}
 
 -- d by drainage 0 to 5, per mille
 abbrev pub drainageParts : List ℕ
 drainageParts = 0 ∷ 100 ∷ 200 ∷ 400 ∷ 700 ∷ 800 ∷ []
 
--- d: 800 for organic parent material at every drainage (document 02, E2)
+-- d: 800 for organic parent material, which is 0, at every drainage (document 02, E2)
 unfoldable pub denitrified : (parent drainage : ℕ) → ℕ
-denitrified parent drainage = pick (organic parent) 800 (getD drainageParts drainage 0)
+denitrified parent drainage = pick (eqb parent 0) 800 (getD drainageParts drainage 0)
 
--- e = 1000 − d
-unfoldable pub undenitrifiedOf : (parent drainage : ℕ) → ℕ
-undenitrifiedOf parent drainage = 1000 - denitrified parent drainage
-
+-- e
 unfoldable pub undenitrified : Site → ℕ
-undenitrified s = undenitrifiedOf (s .parent) (s .drainage)
+undenitrified s = 1000 - denitrified (s .parent) (s .drainage)
 
 -- L
 abbrev pub leachingOf : (q c : ℕ) → ℕ

@@ -1,10 +1,10 @@
 -- Weathering W, and its part w that plants can take up.
 use Prim.Native.Nat.{ℕ, _*_, _-_, _/_}
 use mathlib.Core.List.{List, [], _∷_}
+use lib.Dec.{eqb}
 use lib.ListN.{getD}
 use Rattle.site.specs.Choice.{pick}
 use Rattle.site.specs.declared.Site.{Site}
-use Rattle.loads.specs.ParentMaterial.{organic}
 use Rattle.loads.specs.Texture.{textureOf}
 
 -- class k by texture 1 to 5
@@ -22,7 +22,7 @@ classOf parent texture = getD (getD classes parent []) (texture - 1) 0
 
 -- W
 unfoldable pub weatheringOf : (parent clay sand depth : ℕ) → ℕ
-weatheringOf parent clay sand depth = pick (organic parent) 0 ((500 * classOf parent (textureOf clay sand) - 250) * depth / 100)
+weatheringOf parent clay sand depth = pick (eqb parent 0) 0 ((500 * classOf parent (textureOf clay sand) - 250) * depth / 100)
 
 unfoldable pub weathering : Site → ℕ
 weathering s = weatheringOf (s .parent) (s .clay) (s .sand) (s .depth)

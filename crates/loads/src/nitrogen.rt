@@ -20,7 +20,7 @@ fn denitrified_in(drainage: usize) -> u64
     wide16(DENITRIFIED[drainage])
 }
 
-// d. No site that passes has a drainage past the classes; there the definition takes d as 0 in mineral soils.
+// d. Past class 5, which no site that passes has, the definition takes d as 0 in mineral soils.
 fn denitrified_of(parent: u8, drainage: u8) -> u64
     ensures { λ r. ⌜ r ≡ denitrified parent drainage ⌝ }
 {

@@ -7,7 +7,7 @@ use Rattle.loads.specs.Weathering.{classOf, weatheringOf, weathering, available
 use Rattle.loads.specs.Uptake.{content, nitrogenIn, baseIn, weightOf, sumOver, standSum, nitrogenUptake, baseDemand, baseUptakeOf, baseUptake}
 use Rattle.loads.specs.Hydrogen.{hydrogenOf, alOf, greatestWhere, levelOf, hydrogen, aluminium, greatestLevel, criticalLeaching}
 use Rattle.loads.specs.Supply.{baseSupply, aluminiumLimit}
-use Rattle.loads.specs.Nitrogen.{denitrified, undenitrifiedOf, undenitrified, leaching}
+use Rattle.loads.specs.Nitrogen.{denitrified, undenitrified, leaching}
 use Rattle.loads.specs.SiteTerms.{termsOf}
 use Rattle.loads.specs.CriticalLoads.{maxS, minN, maxN, nutN}
 use Rattle.judgement.specs.Regions.{D, excess, regionOf, acidIn, acidOf}
@@ -21,7 +21,7 @@ use Rattle.pages.specs.PagesDemand3.{shown}
 use Rattle.pages.proofs.SiteColumns.{row-shown}
 
 a1-shown : shown a1 ≡ a1Texts
-unfolding shown lineTexts termsOf up textureOf classOf weatheringOf weathering availableWeathering content nitrogenIn baseIn weightOf sumOver standSum nitrogenUptake baseDemand baseUptakeOf baseUptake baseSupply aluminiumLimit hydrogenOf alOf greatestWhere levelOf hydrogen aluminium greatestLevel criticalLeaching denitrified undenitrifiedOf undenitrified leaching maxS minN maxN nutN D excess regionOf acidIn acidOf region acidExceedance nutrientExceedance verdictOf verdict verdictWord dec decimal
+unfolding shown lineTexts termsOf up textureOf classOf weatheringOf weathering availableWeathering content nitrogenIn baseIn weightOf sumOver standSum nitrogenUptake baseDemand baseUptakeOf baseUptake baseSupply aluminiumLimit hydrogenOf alOf greatestWhere levelOf hydrogen aluminium greatestLevel criticalLeaching denitrified undenitrified leaching maxS minN maxN nutN D excess regionOf acidIn acidOf region acidExceedance nutrientExceedance verdictOf verdict verdictWord dec decimal
 a1-shown = refl
 
 a1-line : rowLine (rowOf a1) ≡ a1Line

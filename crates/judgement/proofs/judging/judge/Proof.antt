@@ -7,6 +7,7 @@ use Rattle.site.specs.declared.Checked.the-variants.{Passed}
 use Rattle.loads.specs.MostTerms.{mostMaxS}
 use Rattle.loads.specs.SiteTerms.{termsOf}
 use Rattle.loads.specs.CriticalLoads.{loadsOf}
+use Rattle.loads.proofs.DenitrifiedLaws.{undenitrified-pos, undenitrified-most}
 use Rattle.loads.proofs.LoadsAnswers.{loads-given, loads-refused}
 use Rattle.loads.proofs.TermLaws.{maxS-le}
 use Rattle.judgement.specs.Answers.{judgedOf, judgementAnswer}
@@ -41,11 +42,10 @@ undenitrified-at-requires c κs = search needs
 verdict-at-requires : tie.Need-verdict-at-requires
 verdict-at-requires c κs =
     let s = c .before .before .before .before .before .args .site in
-    let l = loaded (c .before) in
-    let t = site-bounds s (l .0) in (
+    let l = loaded (c .before) in (
       rw (l .1) (max-s-le s (l .0)),
-      rw (c .undenitrified-at .ensures) (t .e-least),
-      rw (c .undenitrified-at .ensures) (t .e-most),
+      rw (c .undenitrified-at .ensures) (undenitrified-pos _),
+      rw (c .undenitrified-at .ensures) (undenitrified-most _),
     )
 
 returns : tie.Need-returns

@@ -1,7 +1,8 @@
 use native.Mathlib.Omega.{arith}
 use Rattle.loads.specs.SiteTerms.{termsOf}
+use Rattle.loads.proofs.DenitrifiedLaws.{undenitrified-pos}
 use Rattle.loads.proofs.TermLaws.{loads-by}
-use Rattle.loads.proofs.SiteTermLaws.{demand-is, minN-plain, leaching-is, term-bounds}
+use Rattle.loads.proofs.SiteTermLaws.{demand-is, minN-plain, leaching-is}
 use borrow.Author.Needs.{needs}
 use Rattle.loads.proofs.critical.loads_of.Statement.{statement}
 use Rattle.loads.proofs.critical.loads_of.Tie as tie
@@ -46,7 +47,7 @@ with-nitrogen-requires c κs =
       acid = c .max-s-of .ensures .1;
       nitrogen = omega (arith, at .stand-sums .ensures .nitrogen-le, c .before .before .before .before .before .wide16 .ensures .0, b .immobilisation);
       leaching = c .before .before .leaching-of .ensures .1;
-      divisor = rw (c .before .undenitrified-at .ensures) (term-bounds (at .before .before .before .args .s) b .e-least);
+      divisor = rw (c .before .undenitrified-at .ensures) (undenitrified-pos _);
     }
 
 returns : tie.Need-returns
