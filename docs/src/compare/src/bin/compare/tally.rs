@@ -67,8 +67,10 @@ pub struct Tally {
     fault_after_a_page: u64,
     parent_materials: [u64; 5],
     drainages: [u64; 6],
-    /// Organic parent material by drainage.
+    /// Organic parent material by drainage and by region, and within though the part of its drainage would make it over.
     peat: [u64; 6],
+    peat_regions: [u64; 5],
+    peat_within_by_800: u64,
     species: [u64; 9],
     hydrogen_bound: u64,
     aluminium_bound: u64,
@@ -138,6 +140,9 @@ impl Tally {
         self.drainages[usize::from(site.drainage)] += 1;
         if site.parent_material == 0 {
             self.peat[usize::from(site.drainage)] += 1;
+            self.peat_regions[numbers[4] as usize] += 1;
+            let over = over_by_drainage(site, numbers);
+            self.peat_within_by_800 += u64::from(numbers[7] == 0 && over);
         }
         for entry in &site.stand[..usize::from(site.entries)] {
             self.species[usize::from(entry.species)] += 1;
@@ -200,6 +205,12 @@ impl Tally {
                 .map(|drainage| format!("peat, drainage {drainage}"))
                 .zip(self.peat),
         );
+        kinds.extend(
+            (0..)
+                .map(|region| format!("peat, region {region}"))
+                .zip(self.peat_regions),
+        );
+        kinds.push((named("peat, within by 800"), self.peat_within_by_800));
         kinds.extend(SPECIES.map(named).into_iter().zip(self.species));
         kinds.push((named("hydrogen-bound"), self.hydrogen_bound));
         kinds.push((named("aluminium-bound"), self.aluminium_bound));
@@ -212,6 +223,14 @@ impl Tally {
         kinds.push((named("fault after a page"), self.fault_after_a_page));
         absent + column("pages", kinds)
     }
+}
+
+/// Whether a pair that keeps CLmaxS is over where the part of its drainage is denitrified, whatever the parent material.
+fn over_by_drainage(site: &Site, numbers: &[u64]) -> bool {
+    let e = [1000, 900, 800, 600, 300, 200][usize::from(site.drainage)];
+    let left = e * u64::from(site.nitrogen).saturating_sub(numbers[1]);
+    let leaching = Terms::of(site).leaching as u64;
+    left > 1000 * leaching || 1000 * u64::from(site.sulphur) + left > 1000 * numbers[0]
 }
 
 /// Prints a column of kinds that are all due; returns how many never occurred.
