@@ -1,6 +1,7 @@
 -- The four loads from the terms, and what the call answers. One difference of the terms is cut off: B + w − Q/10 in Bu, which is 0 where it is
 -- negative, as document 01 wants. No other is at a site that passes the check: `PartBounds` in `proofs/SiteTermLaws.antt`, for the place of a
--- texture class `texture-between` in `proofs/TextureLaws.antt`, for class k the rules of its table in `proofs/Tables.antt`, for d `denitrified-le` in `proofs/DenitrifiedLaws.antt`.
+-- texture class `texture-between` in `proofs/TextureLaws.antt`, for class k the rules of its table in `proofs/Tables.antt`, for d `denitrified-le`
+-- in `proofs/DenitrifiedLaws.antt`.
 use Prim.Native.Nat.{ℕ, _+_, _*_, _/_}
 use mathlib.Core.List.{List, [], _∷_}
 use Rattle.site.specs.declared.Site.{Site}

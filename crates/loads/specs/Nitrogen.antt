@@ -10,11 +10,11 @@ use Rattle.site.specs.declared.Site.{Site}
 abbrev pub drainageParts : List ℕ
 drainageParts = 0 ∷ 100 ∷ 200 ∷ 400 ∷ 700 ∷ 800 ∷ []
 
--- d: 800 for organic parent material, which is 0, at every drainage (document 02, E2)
+-- d: for organic parent material, code 0, it is 800 at every drainage (document 02, E2)
 unfoldable pub denitrified : (parent drainage : ℕ) → ℕ
 denitrified parent drainage = pick (eqb parent 0) 800 (getD drainageParts drainage 0)
 
--- e
+-- e = 1000 − d
 unfoldable pub undenitrified : Site → ℕ
 undenitrified s = 1000 - denitrified (s .parent) (s .drainage)
 
