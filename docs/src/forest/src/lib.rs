@@ -1,4 +1,4 @@
-//! Critical loads, exceedances and verdicts of forest sites, as document 01 states them, and the pages of document 02.
+//! Critical loads, exceedances and verdicts of forest sites, as document 01 and E2 of document 02 state them, and the pages of E1.
 //!
 //! Numbers are `i64` throughout: the greatest product, Q × K × h³, is 3.75 × 10¹⁸.
 

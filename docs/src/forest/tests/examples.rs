@@ -1,4 +1,4 @@
-//! The worked examples of document 01.
+//! The worked examples of document 01, and peat by document 02, E2.
 
 mod common;
 
@@ -311,6 +311,12 @@ fn peat_denitrifies_alike_at_every_drainage() {
         max_n: 205 + 2150,
         nut_n: 205 + 200,
     };
+    // At the pair 390, 406 v is 200 and D is 1,040,000.
+    let over = Verdict::Over {
+        region: 2,
+        acid: 1,
+        nutrient: 1,
+    };
     for drainage in 0..6 {
         let peat = |nitrogen| Site {
             parent_material: 0,
@@ -322,6 +328,6 @@ fn peat_denitrifies_alike_at_every_drainage() {
         assert_eq!(loads(&peat(405)), Ok(expected));
         // 390,000 + 200 × 200 is 1000 × CLmaxS, and 200 × 200 is 1000 × L.
         assert_eq!(judge(&peat(405)).unwrap().verdict, Verdict::Within);
-        assert_ne!(judge(&peat(406)).unwrap().verdict, Verdict::Within);
+        assert_eq!(judge(&peat(406)).unwrap().verdict, over);
     }
 }

@@ -225,7 +225,7 @@ impl Tally {
     }
 }
 
-/// Whether a pair that keeps CLmaxS is over where the part of its drainage is denitrified, whatever the parent material.
+/// Whether the balances leave the pair over where the part of its drainage is denitrified, whatever the parent material.
 fn over_by_drainage(site: &Site, numbers: &[u64]) -> bool {
     let e = [1000, 900, 800, 600, 300, 200][usize::from(site.drainage)];
     let left = e * u64::from(site.nitrogen).saturating_sub(numbers[1]);
