@@ -135,19 +135,20 @@ impl Tally {
 
     /// A site that was judged, with the numbers of `forest_judge`.
     pub fn judged(&mut self, site: &Site, numbers: &[u64]) {
+        let terms = Terms::of(site);
         self.verdict(JUDGE, numbers[4] as usize, numbers[7] == 1);
         self.parent_materials[usize::from(site.parent_material)] += 1;
         self.drainages[usize::from(site.drainage)] += 1;
         if site.parent_material == 0 {
             self.peat[usize::from(site.drainage)] += 1;
             self.peat_regions[numbers[4] as usize] += 1;
-            let over = over_by_drainage(site, numbers);
+            let over = over_by_drainage(site, &terms, numbers);
             self.peat_within_by_800 += u64::from(numbers[7] == 0 && over);
         }
         for entry in &site.stand[..usize::from(site.entries)] {
             self.species[usize::from(entry.species)] += 1;
         }
-        if Terms::of(site).level == i64::from(site.hydrogen_ceiling) {
+        if terms.level == i64::from(site.hydrogen_ceiling) {
             self.hydrogen_bound += 1;
         } else {
             self.aluminium_bound += 1;
@@ -195,21 +196,9 @@ impl Tally {
                 .into_iter()
                 .zip(self.parent_materials),
         );
-        kinds.extend(
-            (0..)
-                .map(|drainage| format!("drainage {drainage}"))
-                .zip(self.drainages),
-        );
-        kinds.extend(
-            (0..)
-                .map(|drainage| format!("peat, drainage {drainage}"))
-                .zip(self.peat),
-        );
-        kinds.extend(
-            (0..)
-                .map(|region| format!("peat, region {region}"))
-                .zip(self.peat_regions),
-        );
+        kinds.extend(numbered("drainage", &self.drainages));
+        kinds.extend(numbered("peat, drainage", &self.peat));
+        kinds.extend(numbered("peat, region", &self.peat_regions));
         kinds.push((named("peat, within by 800"), self.peat_within_by_800));
         kinds.extend(SPECIES.map(named).into_iter().zip(self.species));
         kinds.push((named("hydrogen-bound"), self.hydrogen_bound));
@@ -226,11 +215,17 @@ impl Tally {
 }
 
 /// Whether the balances leave the pair over where the part of its drainage is denitrified, whatever the parent material.
-fn over_by_drainage(site: &Site, numbers: &[u64]) -> bool {
+fn over_by_drainage(site: &Site, terms: &Terms, numbers: &[u64]) -> bool {
     let e = [1000, 900, 800, 600, 300, 200][usize::from(site.drainage)];
     let left = e * u64::from(site.nitrogen).saturating_sub(numbers[1]);
-    let leaching = Terms::of(site).leaching as u64;
-    left > 1000 * leaching || 1000 * u64::from(site.sulphur) + left > 1000 * numbers[0]
+    left > 1000 * terms.leaching as u64 || 1000 * u64::from(site.sulphur) + left > 1000 * numbers[0]
+}
+
+/// Counts by number, each named with it.
+fn numbered<'a>(name: &'a str, counts: &'a [u64]) -> impl Iterator<Item = (String, u64)> + 'a {
+    (0..)
+        .map(move |k| format!("{name} {k}"))
+        .zip(counts.iter().copied())
 }
 
 /// Prints a column of kinds that are all due; returns how many never occurred.
