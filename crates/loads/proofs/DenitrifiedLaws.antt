@@ -7,7 +7,7 @@ use borrow.Author.Tests.{ne-eqb}
 use lib.Dec.{eqb}
 use lib.ListN.{getD}
 use Rattle.site.specs.declared.Site.{Site}
-use Rattle.loads.specs.MostTerms.{leastE}
+use Rattle.loads.specs.MostTerms.{mostD, leastE}
 use Rattle.loads.specs.Nitrogen.{denitrified, undenitrified}
 use Rattle.loads.specs.SiteTerms.{termsOf}
 use Rattle.loads.proofs.Numbers.{pick-le}
@@ -26,7 +26,7 @@ unfolding denitrified
 mineral-part parent drainage h = rw (ne-eqb parent 0 h)
 
 -- d is 800 at most, so 1000 − d is not cut off
-pub denitrified-le : (parent drainage : ℕ) → denitrified parent drainage ≤ 800
+pub denitrified-le : (parent drainage : ℕ) → denitrified parent drainage ≤ mostD
 unfolding denitrified
 denitrified-le parent drainage = pick-le (eqb parent 0) (omega arith) (drainage-part-le drainage)
 

@@ -34,6 +34,10 @@ sum-le l zero h = omega (arith, sum-none nitrogenIn l)
 sum-le l (suc n) h =
     omega (arith, sum-more nitrogenIn l n, sum-le l n (λ i b. h i (omega arith)), weight-le (getD l n noEntry) (h n (omega arith)))
 
+-- a thousandfold, by e
+part-le : (s : Site) (x most : ℕ) → x ≤ most → 1000 * x / termsOf s .e ≤ 1000 * most / leastE
+part-le s x most h = quotient-le (1000 * x) (termsOf s .e) leastE (1000 * most / leastE) (undenitrified-least s) (omega arith)
+
 module _ (s : Site) (b : Bounds s) where
   L-le : termsOf s .L ≤ mostL
   L-le =
@@ -43,10 +47,6 @@ module _ (s : Site) (b : Bounds s) where
   minN-le : minN (termsOf s) ≤ mostMinN
   minN-le = omega (arith, minN-plain s, sum-le (s .stand) (s .entries) (b .stand .each), b .stand .count, b .immobilisation)
 
-  -- a thousandfold, by e
-  part-le : (x most : ℕ) → x ≤ most → 1000 * x / termsOf s .e ≤ 1000 * most / leastE
-  part-le x most h = quotient-le (1000 * x) (termsOf s .e) leastE (1000 * most / leastE) (undenitrified-least s) (omega arith)
-
   pub load-bounds : LoadBounds (termsOf s)
   unfolding maxN nutN
   load-bounds =
@@ -54,6 +54,6 @@ module _ (s : Site) (b : Bounds s) where
       record {
         maxS-most = acid;
         minN-most = minN-le;
-        maxN-most = omega (arith, minN-le, part-le (maxS (termsOf s)) mostMaxS acid);
-        nutN-most = omega (arith, minN-le, part-le (termsOf s .L) mostL L-le);
+        maxN-most = omega (arith, minN-le, part-le s (maxS (termsOf s)) mostMaxS acid);
+        nutN-most = omega (arith, minN-le, part-le s (termsOf s .L) mostL L-le);
       }

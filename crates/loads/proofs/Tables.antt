@@ -12,6 +12,7 @@ use Rattle.site.proofs.BelowLaws.{allBelow, one-below}
 use Rattle.loads.specs.Weathering.{classOf}
 use Rattle.loads.specs.Nitrogen.{drainageParts}
 use Rattle.loads.specs.Uptake.{content, nitrogenIn}
+use Rattle.loads.specs.MostTerms.{mostD}
 
 -- class k is 20 at most, and 1 at least where the parent material is not organic
 abbrev classTest : ℕ → ℕ → Bool
@@ -40,8 +41,8 @@ nitrogen-content-le x h = leb-true _ _ (one-below (λ x. leb (nitrogenIn x) 6553
 pub drainage-part-none : (d : ℕ) → 5 < d → getD drainageParts d 0 ≡ 0
 drainage-part-none d h = List·getD-eq-default {A = ℕ} drainageParts 0 {n = d} (omega arith)
 
-pub drainage-part-le : (d : ℕ) → getD drainageParts d 0 ≤ 800
+pub drainage-part-le : (d : ℕ) → getD drainageParts d 0 ≤ mostD
 drainage-part-le d =
-    ⊎-elim (λ (h : d ≤ 5). leb-true _ _ (one-below (λ d. leb (getD drainageParts d 0) 800) 6 refl d (omega arith)))
+    ⊎-elim (λ (h : d ≤ 5). leb-true _ _ (one-below (λ d. leb (getD drainageParts d 0) mostD) 6 refl d (omega arith)))
     (λ (h : 5 < d). omega (arith, drainage-part-none d h))
     (le-or-lt d 5)

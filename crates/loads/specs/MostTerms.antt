@@ -42,9 +42,13 @@ mostBaseWeight = shareRange .most * mostYield * (3 * 65535)
 abbrev pub mostMinN : ℕ
 mostMinN = mostEntries * mostNitrogenWeight / uptakeDivisor + immobilisationRange .most
 
--- e, the least: 1000 − 800
+-- d
+abbrev pub mostD : ℕ
+mostD = 800
+
+-- e, the least; 200
 abbrev pub leastE : ℕ
-leastE = 200
+leastE = 1000 - mostD
 
 -- CLmaxN; 1868553
 abbrev pub mostMaxN : ℕ

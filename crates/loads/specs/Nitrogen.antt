@@ -6,7 +6,7 @@ use lib.ListN.{getD}
 use Rattle.site.specs.Choice.{pick}
 use Rattle.site.specs.declared.Site.{Site}
 
--- d by drainage 0 to 5, per mille
+-- d by drainage 0 to 5, per mille, where the parent material is not organic
 abbrev pub drainageParts : List ℕ
 drainageParts = 0 ∷ 100 ∷ 200 ∷ 400 ∷ 700 ∷ 800 ∷ []
 

@@ -10,17 +10,17 @@ use numbers::wide;
 use numbers::wide16;
 use site::Site;
 
-// d by drainage 0 to 5, per mille.
-const DENITRIFIED: [u16; 6] = [0, 100, 200, 400, 700, 800];
+// d by drainage 0 to 5, per mille, where the parent material is not organic.
+const DRAINAGE_PARTS: [u16; 6] = [0, 100, 200, 400, 700, 800];
 
-fn denitrified_in(drainage: usize) -> u64
+fn drainage_part(drainage: usize) -> u64
     requires { ⌜ drainage ≤ drainageRange .most ⌝ }
     ensures { λ r. ⌜ r ≡ getD drainageParts drainage 0 ⌝ }
 {
-    wide16(DENITRIFIED[drainage])
+    wide16(DRAINAGE_PARTS[drainage])
 }
 
-// d. Past class 5, which no site that passes has, the definition takes d as 0 in mineral soils.
+// d: 800 for organic parent material, else by drainage. Past class 5, which no site that passes has, the definition takes 0.
 fn denitrified_of(parent: u8, drainage: u8) -> u64
     ensures { λ r. ⌜ r ≡ denitrified parent drainage ⌝ }
 {
@@ -31,7 +31,7 @@ fn denitrified_of(parent: u8, drainage: u8) -> u64
     if 5 < class {
         return 0;
     }
-    denitrified_in(class)
+    drainage_part(class)
 }
 
 // e at a site

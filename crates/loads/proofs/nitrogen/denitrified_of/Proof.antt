@@ -17,14 +17,14 @@ returns-2 c =
     let a = c .before .before .before .args in
     rw (mineral-part (a .parent) (a .drainage) (c .before .before .if1 .left), drainage-part-none (a .drainage) (omega arith))
 
-denitrified-in-requires : tie.Need-denitrified-in-requires
-denitrified-in-requires c κs = search needs
+drainage-part-requires : tie.Need-drainage-part-requires
+drainage-part-requires c κs = search needs
 
 returns-3 : tie.Need-returns-3
 returns-3 c =
     let a = c .before .before .before .before .args in
-    rw (mineral-part (a .parent) (a .drainage) (c .before .before .before .if1 .left), c .denitrified-in .ensures, c .before .before .wide .ensures .0)
+    rw (mineral-part (a .parent) (a .drainage) (c .before .before .before .if1 .left), c .drainage-part .ensures, c .before .before .wide .ensures .0)
 
 pub denitrified-of-spec : {M : Type 1} → statement M
 denitrified-of-spec =
-    tie.close (tie.spec returns wide-requires returns-2 denitrified-in-requires returns-3)
+    tie.close (tie.spec returns wide-requires returns-2 drainage-part-requires returns-3)

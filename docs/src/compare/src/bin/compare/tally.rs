@@ -214,7 +214,7 @@ impl Tally {
     }
 }
 
-/// Whether the balances leave the pair over where the part of its drainage is denitrified, whatever the parent material.
+/// Whether the pair would be over with the part by its drainage, as for every other parent material.
 fn over_by_drainage(site: &Site, terms: &Terms, numbers: &[u64]) -> bool {
     let e = [1000, 900, 800, 600, 300, 200][usize::from(site.drainage)];
     let left = e * u64::from(site.nitrogen).saturating_sub(numbers[1]);

@@ -1,6 +1,6 @@
 use borrow.Author.Needs.{needs}
-use Rattle.loads.proofs.nitrogen.denitrified_in.Statement.{statement}
-use Rattle.loads.proofs.nitrogen.denitrified_in.Tie as tie
+use Rattle.loads.proofs.nitrogen.drainage_part.Statement.{statement}
+use Rattle.loads.proofs.nitrogen.drainage_part.Tie as tie
 
 mul-wide16 : tie.Need-mul-wide16
 mul-wide16 c = search needs
@@ -14,5 +14,5 @@ wide16-requires c κs = search needs
 returns : tie.Need-returns
 returns c = c .wide16 .ensures .0
 
-pub denitrified-in-spec : {M : Type 1} → statement M
-denitrified-in-spec = tie.close (tie.spec mul-wide16 array-read-wide16 wide16-requires returns)
+pub drainage-part-spec : {M : Type 1} → statement M
+drainage-part-spec = tie.close (tie.spec mul-wide16 array-read-wide16 wide16-requires returns)
