@@ -2,8 +2,9 @@
  * Forest site instrument: critical loads, exceedances and verdict.
  *
  * A result is one number. Below 2^32 it is a count: of bytes for forest_list, forest_pages, forest_report and
- * forest_rewrite, of numbers for forest_loads and forest_judge, and 0 for forest_check. From 2^32 on it is a refusal: rule
- * number * 2^32 + offset. A refusal alters no byte of the lent buffer; a success alters the first `count` elements alone.
+ * forest_rewrite, of numbers for forest_loads, forest_judge and forest_sample, and 0 for forest_check. From 2^32 on it is a
+ * refusal: rule number * 2^32 + offset. A refusal alters no byte of the lent buffer; a success alters the first `count`
+ * elements alone.
  *
  *   Refusal                                                                            Offset
  *    1  no bytes                                                                       0
@@ -17,9 +18,12 @@
  *    9  species not rising                                                             the field
  *   10  shares not 100                                                                 the field
  *   11  lent buffer shorter than the output                                            0
+ *   12  concentration not a number, infinite, negative or above 1000                   the month, from 0
+ *   13  reading missing                                                                the month, from 0
+ *   14  S or N of the year above 65,535                                                12
  *
- * Offsets count bytes from the start of the file or record; of a site value each is 0. The first fault from the left is
- * given, and 11 only where there is no other.
+ * Offsets count bytes from the start of the file or record; of a site value each is 0; 8 for a month's rain is at the month.
+ * The first fault from the left is given, 14 after all months, and 11 only where there is no other.
  *
  * A field is a tag of one byte, a length of two bytes, high byte first, and a value. A record is an outer field whose value
  * is the fields 01 to 0F (hexadecimal), each once, rising; a file is 1 to 500 records. README.md, "A file of records", has
@@ -36,6 +40,15 @@
  *   46  deposition S, 2         48  deposition N, 2
  *
  * Any 50 bytes are a site value; a bad one is refused by rules 7 to 10, another length by 7.
+ *
+ * The rain sampler's months are 204 bytes, 17 for each of twelve months, numbers with the high byte first:
+ *
+ *    0  rain in mm, 2, 0 to 1000                             2  sulphate sulphur, 5
+ *    7  nitrate nitrogen, 5                                 12  ammonium nitrogen, 5
+ *
+ * Such a reading is its case, 0 measured, 1 below a detection limit, 2 missing, and the 32 bits of a float (IEEE 754
+ * binary32) in mg per litre, that of case 1 being the limit. Another case counts as missing; the float of a missing reading
+ * is not looked at. Another length than 204 is refused by 7 at 0.
  *
  * What a call asks:
  *   - a pointer is valid for its length: its elements may be read, those of `out` written, and nothing else writes them
@@ -85,6 +98,14 @@ uint64_t forest_loads(const uint8_t *site, size_t site_len, uint64_t *out, size_
 /* Eight numbers: the four loads, region (0 to 4), acid exceedance, nutrient exceedance, mark (0 within, 1 over).
  * Stack: 1 KiB. */
 uint64_t forest_judge(const uint8_t *site, size_t site_len, uint64_t *out, size_t out_len);
+
+/* The pair of a year from the rain sampler, judged at the site in place of its own. Ten numbers: S, N, then the eight of
+ * forest_judge for the site with this pair. Each reading counts in whole µg per litre, up, a value below the limit as the
+ * limit; S is the sum of mm times µg, divided by 1600, up, N that of both forms of nitrogen, divided by 1400, up. The site
+ * is checked first, then the length of the months, then each month in order: rain (8), sulphate, nitrate, ammonium (12 or
+ * 13, also in a month without rain). Stack: 2 KiB. */
+uint64_t forest_sample(const uint8_t *site, size_t site_len, const uint8_t *months, size_t months_len, uint64_t *out,
+                       size_t out_len);
 
 /* No listing and no report is longer than the first, and no accepted record than the third. The second is the length of all
  * pages of a file of 500 records. */

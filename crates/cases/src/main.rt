@@ -5,17 +5,26 @@
 //   S  the same with a buffer one byte shorter than the record
 //   P  a file: its pages, or the line of its refusal
 //   T  two bytes, a count with the high byte first, then one record: the pages of a file of that many such records, as far as the buffer holds them
+//   M  a record, then months of the rain sampler, those left out being dry: the pair of the year and its judgement at the record's site, or the line of its refusal
 ghost use Prim.Native.Nat.{_≤_};
 ghost use lib.ListN.{length};
 ghost use Rattle.io.specs.Counts.{Counts};
+use judgement::Verdict;
+use judgement::region_number;
 use listing::report;
+use numbers::wide16;
 use numbers::word_at;
 use output::Written;
 use pages::list_pages;
 use record::Outcome;
 use record::read_record;
 use record::write_record;
+use sampler::SampleAnswer;
+use sampler::Sampled;
+use sampler::judge_months;
+use sampler::months_in;
 use site::Rule;
+use text::put_decimal;
 use text::put_refusal;
 
 // The value of a hexadecimal digit, or 16.
@@ -161,12 +170,69 @@ fn print_repeated(bytes: &[u8]) {
     print_pages(&file[..n]);
 }
 
+fn print_number(n: u64) {
+    let mut out = [0u8; 20];
+    let end = put_decimal(&mut out, 0, n);
+    print_first(&out, end);
+    io::write_all(1, b" ");
+}
+
+fn print_verdict(verdict: Verdict) {
+    match verdict {
+        Verdict::Within => {
+            io::write_all(1, b"0 0 0 within\n");
+        }
+        Verdict::Over {
+            region,
+            acid,
+            nutrient,
+        } => {
+            print_number(region_number(region));
+            print_number(acid);
+            print_number(nutrient);
+            io::write_all(1, b"over\n");
+        }
+    }
+}
+
+fn print_sampled(sampled: Sampled) {
+    print_number(wide16(sampled.sulphur));
+    print_number(wide16(sampled.nitrogen));
+    let judged = sampled.judged;
+    let l = judged.loads;
+    print_number(l.max_s);
+    print_number(l.min_n);
+    print_number(l.max_n);
+    print_number(l.nut_n);
+    let verdict = judged.verdict;
+    print_verdict(verdict);
+}
+
+// The record is as long as it states.
+fn print_months(bytes: &[u8]) {
+    let end = 3 + word_at(bytes, 1) as usize;
+    if bytes.len() < end {
+        return;
+    }
+    let read = read_record(&bytes[..end]);
+    let site = read.site;
+    let outcome = read.outcome;
+    match outcome {
+        Outcome::Refused { rule, at } => print_refusal(rule, at),
+        Outcome::Accepted => match judge_months(site, months_in(&bytes[end..])) {
+            SampleAnswer::Refused { rule, at } => print_refusal(rule, at),
+            SampleAnswer::Given(sampled) => print_sampled(sampled),
+        },
+    }
+}
+
 fn print_vector(kind: u8, bytes: &[u8], out: &mut [u8]) {
     match kind {
         70 => {
             let written = report(bytes, out);
             print_written(out, written);
         }
+        77 => print_months(bytes),
         80 => print_pages(bytes),
         82 => print_rewritten(bytes, out),
         83 => {

@@ -5,7 +5,7 @@ use native.Mathlib.Omega.{arith}
 use native.Mathlib.Nat.{mod-eq-of-lt}
 use Rattle.site.specs.Refusal.{ruleNumber}
 use Rattle.site.specs.declared.Rule.{Rule}
-use Rattle.site.specs.declared.Rule.the-variants.{NoBytes, OuterCut, OuterTag, TooMany, InnerCut, InnerTag, BadLength, OutOfRange, NotRising, SharesNotWhole, BufferShort}
+use Rattle.site.specs.declared.Rule.the-variants.{NoBytes, OuterCut, OuterTag, TooMany, InnerCut, InnerTag, BadLength, OutOfRange, NotRising, SharesNotWhole, BufferShort, BadConcentration, NoReading, PairTooLarge}
 use Rattle.site.specs.declared.Checked.{Checked}
 use Rattle.output.specs.declared.Written.{Written}
 use Rattle.output.specs.declared.Written.the-variants.{Count, Refused}
@@ -13,8 +13,8 @@ use Rattle.output.specs.Output.{writeAnswer}
 use Rattle.output.proofs.OutputLaws.{count-is, refused-at-0}
 use Rattle.exports.specs.Codes.{codeBase, writtenCode, Decodes}
 
--- 01's numbers are 1 to 11
-pub number-range : (r : Rule) → (1 ≤ ruleNumber r) × (ruleNumber r ≤ 11)
+-- the rules' numbers are 1 to 14
+pub number-range : (r : Rule) → (1 ≤ ruleNumber r) × (ruleNumber r ≤ 14)
 number-range NoBytes = (omega arith, omega arith)
 number-range OuterCut = (omega arith, omega arith)
 number-range OuterTag = (omega arith, omega arith)
@@ -26,6 +26,9 @@ number-range OutOfRange = (omega arith, omega arith)
 number-range NotRising = (omega arith, omega arith)
 number-range SharesNotWhole = (omega arith, omega arith)
 number-range BufferShort = (omega arith, omega arith)
+number-range BadConcentration = (omega arith, omega arith)
+number-range NoReading = (omega arith, omega arith)
+number-range PairTooLarge = (omega arith, omega arith)
 
 -- a number below 2³² is a count
 pub count-below : (l : Written) {r : ℕ} → r ≡ writtenCode l → r < codeBase → l ≡ Count r

@@ -17,6 +17,7 @@ use Rattle.output.specs.declared.Written.{Written}
 use Rattle.output.specs.Output.{outputRule, writeAnswer}
 use Rattle.loads.specs.SiteTerms.{termsOf}
 use Rattle.loads.specs.CriticalLoads.{loadsOf, loadNumbers}
+use Rattle.judgement.specs.declared.Judged.{Judged}
 use Rattle.judgement.specs.declared.Verdict.{Verdict}
 use Rattle.judgement.specs.declared.Verdict.the-variants.{Within, Over}
 use Rattle.judgement.specs.Verdicts.{verdict, verdictNumbers}
@@ -62,6 +63,9 @@ markNumber (Over r acid nutrient) = 1
 
 unfoldable pub verdictMarked : Verdict → List ℕ
 verdictMarked v = verdictNumbers v ++ (markNumber v ∷ [])
+
+unfoldable pub judgedNumbers : Judged → List ℕ
+judgedNumbers j = loadNumbers (j .loads) ++ verdictMarked (j .verdict)
 
 unfoldable pub judgementNumbers : Site → List ℕ
 judgementNumbers s = siteLoadNumbers s ++ verdictMarked (verdict (termsOf s) (s .sulphur) (s .nitrogen))

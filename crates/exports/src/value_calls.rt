@@ -6,9 +6,10 @@ ghost use Rattle.judgement.specs.Balance.{MarkSays};
 ghost use Rattle.output.specs.Output.{writeAnswer, outputRule, heldAfter};
 ghost use Rattle.output.specs.Writing.{Wrote};
 ghost use Rattle.exports.specs.Codes.{writtenCode, Decodes};
-ghost use Rattle.exports.specs.Layout.{siteIn, valueCheck, valueAnswer, siteLoadNumbers, judgementNumbers, verdictMarked};
+ghost use Rattle.exports.specs.Layout.{siteIn, valueCheck, valueAnswer, siteLoadNumbers, judgedNumbers, judgementNumbers, verdictMarked};
 use crate::codes::refusal_code;
 use crate::layout::site_in;
+use judgement::Judged;
 use judgement::JudgementAnswer;
 use judgement::Verdict;
 use judgement::judge;
@@ -79,6 +80,18 @@ fn verdict_marked(v: Verdict) -> [u64; 4]
     }
 }
 
+// The loads from place `at` on, and behind them the verdict.
+pub fn put_judged(out: &mut [u64], at: usize, judged: Judged)
+    requires { ⌜ at + 8 ≤ length (now out) ⌝ }
+    ensures { λ _. ⌜ Wrote (now (out .entry)) at (judgedNumbers judged) (now (out .exit)) (at + 8) ⌝ }
+{
+    let l = judged.loads;
+    let v = judged.verdict;
+    let marked = verdict_marked(v);
+    put_four(out, at, [l.max_s, l.min_n, l.max_n, l.nut_n]);
+    put_four(out, at + 4, marked);
+}
+
 #[no_mangle]
 pub extern "C" fn forest_judge(site: &[u8], out: &mut [u64]) -> u64
     ensures answer { λ r. ⌜ r ≡ writtenCode (valueAnswer (now (site .entry)) 8 (length (now (out .entry)))) ⌝ }
@@ -95,11 +108,7 @@ pub extern "C" fn forest_judge(site: &[u8], out: &mut [u64]) -> u64
             if out.len() < 8 {
                 return refusal_code(Rule::BufferShort, 0);
             }
-            let l = judged.loads;
-            let v = judged.verdict;
-            let marked = verdict_marked(v);
-            put_four(out, 0, [l.max_s, l.min_n, l.max_n, l.nut_n]);
-            put_four(out, 4, marked);
+            put_judged(out, 0, judged);
             8
         }
     }

@@ -70,7 +70,7 @@ word-is t S N = go (eqb (regionNumber (region t S N)) 0 && eqb (nutrientExceedan
     go true = refl
     go false = refl
 
-judged-values : (s : Site) → judgedValues (judgedOf s) ≡ pairValues (termsOf s) (s .sulphur) (s .nitrogen)
+pub judged-values : (s : Site) → judgedValues (judgedOf s) ≡ pairValues (termsOf s) (s .sulphur) (s .nitrogen)
 unfolding judgedValues judgedOf loadsOf loadNumbers pairValues
 judged-values s = rw (numbers-are (termsOf s) (s .sulphur) (s .nitrogen), word-is (termsOf s) (s .sulphur) (s .nitrogen))
 

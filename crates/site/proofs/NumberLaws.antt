@@ -6,7 +6,7 @@ use Prim.Native.Nat.{ℕ}
 use lib.Dec.{leb, eqb}
 use Rattle.site.specs.declared.Site.{Site}
 use Rattle.site.specs.declared.Entry.{Entry}
-use Rattle.site.specs.declared.Rule.the-variants.{NoBytes, OuterCut, OuterTag, TooMany, InnerCut, InnerTag, BadLength, OutOfRange, NotRising, SharesNotWhole, BufferShort}
+use Rattle.site.specs.declared.Rule.the-variants.{NoBytes, OuterCut, OuterTag, TooMany, InnerCut, InnerTag, BadLength, OutOfRange, NotRising, SharesNotWhole, BufferShort, BadConcentration, NoReading, PairTooLarge}
 use Rattle.site.specs.declared.Checked.{Checked}
 use Rattle.site.specs.declared.Checked.the-variants.{Passed, Broken}
 use Rattle.site.specs.Choice.{pick}
@@ -35,6 +35,9 @@ number-of (Broken OutOfRange) e = out-of-range
 number-of (Broken NotRising) e = not-rising
 number-of (Broken SharesNotWhole) e = shares-not-whole
 number-of (Broken BufferShort) e = absurd (false≢true e)
+number-of (Broken BadConcentration) e = absurd (false≢true e)
+number-of (Broken NoReading) e = absurd (false≢true e)
+number-of (Broken PairTooLarge) e = absurd (false≢true e)
 
 pub numbered : (a b : Checked) → a ≡ b → known b ≡ true → Numbered b (checkedNumber a)
 numbered a b e k = rw e (number-of b k)

@@ -1,8 +1,8 @@
--- Document 01, "Where each check stands": the refusals by number.
+-- The refusals by number: 1 to 11 of document 01, "Where each check stands", then those of document 02.
 use Prim.Native.Nat.{ℕ}
 use mathlib.Core.List.{List, [], _∷_}
 use Rattle.site.specs.declared.Rule.{Rule}
-use Rattle.site.specs.declared.Rule.the-variants.{NoBytes, OuterCut, OuterTag, TooMany, InnerCut, InnerTag, BadLength, OutOfRange, NotRising, SharesNotWhole, BufferShort}
+use Rattle.site.specs.declared.Rule.the-variants.{NoBytes, OuterCut, OuterTag, TooMany, InnerCut, InnerTag, BadLength, OutOfRange, NotRising, SharesNotWhole, BufferShort, BadConcentration, NoReading, PairTooLarge}
 use Rattle.site.specs.declared.Checked.{Checked}
 use Rattle.site.specs.declared.Checked.the-variants.{Passed, Broken}
 
@@ -18,6 +18,9 @@ ruleNumber OutOfRange = 8
 ruleNumber NotRising = 9
 ruleNumber SharesNotWhole = 10
 ruleNumber BufferShort = 11
+ruleNumber BadConcentration = 12
+ruleNumber NoReading = 13
+ruleNumber PairTooLarge = 14
 
 -- the number of the refusal, and 0 where there is none
 unfoldable pub checkedNumber : Checked → ℕ

@@ -60,7 +60,7 @@ pub struct Site {
     pub nitrogen: u16,
 }
 
-// The refusals of document 01, "Where each check stands", in its order.
+// The refusals by number: 1 to 11 of document 01, "Where each check stands", then those of document 02.
 pub enum Rule {
     NoBytes,
     OuterCut,
@@ -73,6 +73,9 @@ pub enum Rule {
     NotRising,
     SharesNotWhole,
     BufferShort,
+    BadConcentration,
+    NoReading,
+    PairTooLarge,
 }
 
 // What a check says.

@@ -18,5 +18,8 @@ pub fn rule_number(rule: Rule) -> u64
         Rule::NotRising => 9,
         Rule::SharesNotWhole => 10,
         Rule::BufferShort => 11,
+        Rule::BadConcentration => 12,
+        Rule::NoReading => 13,
+        Rule::PairTooLarge => 14,
     }
 }

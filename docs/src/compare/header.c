@@ -16,7 +16,7 @@ static const uint8_t file[156] = {
     0x52, 0, 75, 1, 0, 2, 'A', '1', FIELDS_02_TO_06, FIELDS_07_TO_0E, 15, 0, 4, 0x01, 0xF4, 0x02, 0xBC,
     0x52, 0, 75, 1, 0, 2, 'B', '2', FIELDS_02_TO_06, FIELDS_07_TO_0E, 15, 0, 4, 0x00, 0xC8, 0x00, 0xF0,
 };
-enum { RECORD = 78, SITE = 50, ROOM = 200, SPARE = 0xA5 };
+enum { RECORD = 78, SITE = 50, MONTH = 17, MONTHS = 204, ROOM = 200, SPARE = 0xA5 };
 
 /* The longest listing and record that document 01 lets be are within what the header gives; 500 sites are on 9 pages. */
 _Static_assert(FOREST_MOST_TEXT >= 51 + 500 * (8 + 7 * 8 + 7 + 1) && FOREST_MOST_RECORD >= 96, "forest.h: too short");
@@ -25,6 +25,12 @@ _Static_assert(FOREST_MOST_PAGES == (9 + 500) * (64 + 1), "forest.h: all pages")
 static const uint8_t site[SITE] = {
     'A', '1', 0, 0, 0, 0, 0, 0, 2, 1, 10, 65, 50, 1, 0, 200, 0, 100, 0x07, 0xD0, 0, 0, 0, 0, 0, 0, 0, 0, 0, 0, 0, 0, 1,
     0, 50, 80, 0x01, 0x2C, 0x03, 0xE8, 0x0B, 0xB8, 0x03, 0xE8, 0, 20, 0x01, 0xF4, 0x02, 0xBC,
+};
+
+/* The first two months, with the floats 0.5, 0.25, 0.375 and 0.0078125; the other ten are dry. They give the pair 500, 700. */
+static const uint8_t months[MONTHS] = {
+    0x03, 0xE8, 0, 0x3F, 0, 0, 0, 0, 0x3F, 0, 0, 0, 0, 0x3E, 0x80, 0, 0,
+    0x02, 0x58, 1, 0x3F, 0, 0, 0, 0, 0x3E, 0xC0, 0, 0, 1, 0x3C, 0, 0, 0,
 };
 
 static const char listing[] = "id maxS minN maxN nutN region acidEx nutEx verdict\n"
@@ -50,7 +56,7 @@ static uint64_t refusal(uint64_t rule, uint64_t offset) { return (rule << 32) + 
 
 /* The lent buffers, every byte of them spare before a call. */
 static uint8_t text[ROOM];
-static uint64_t numbers[9];
+static uint64_t numbers[11];
 
 static void lend(void) {
     memset(text, SPARE, sizeof text);
@@ -77,7 +83,7 @@ static void expect_numbers(const char *what, uint64_t answer, uint64_t expected,
 }
 
 int main(void) {
-    static const uint64_t judged[8] = {735, 205, 1021, 249, 2, 221, 451, 1};
+    static const uint64_t sampled[10] = {500, 700, 735, 205, 1021, 249, 2, 221, 451, 1}, *const judged = sampled + 2;
     const size_t length = sizeof listing - 1, page_length = sizeof page - 1;
     lend();
 
@@ -111,6 +117,19 @@ int main(void) {
     expect_numbers("a judgement", forest_judge(site, SITE, numbers, 8), 8, judged, 8);
     expect_numbers("room for seven numbers", forest_judge(site, SITE, numbers, 7), refusal(11, 0), judged, 0);
     expect_numbers("a judgement of no site", forest_judge(NULL, 0, NULL, 0), refusal(7, 0), judged, 0);
+
+    uint8_t came_within[SITE], missing[MONTHS];
+    memcpy(came_within, site, SITE);
+    came_within[46] = came_within[48] = 0;
+    memcpy(missing, months, MONTHS);
+    missing[11 * MONTH + 12] = 2;
+    expect_numbers("a year", forest_sample(came_within, SITE, months, MONTHS, numbers, 10), 10, sampled, 10);
+    expect_numbers("room for nine numbers", forest_sample(site, SITE, months, MONTHS, numbers, 9), refusal(11, 0), sampled, 0);
+    expect_numbers("a reading missing", forest_sample(site, SITE, missing, MONTHS, numbers, 11), refusal(13, 11), sampled, 0);
+    expect_numbers("203 bytes of months", forest_sample(site, SITE, months, MONTHS - 1, numbers, 11), refusal(7, 0), sampled, 0);
+    came_within[13] = 6;
+    expect_numbers("a bad site, no months", forest_sample(came_within, SITE, NULL, 0, numbers, 11), refusal(8, 0), sampled, 0);
+    expect_numbers("a year of no site", forest_sample(NULL, 0, NULL, 0, NULL, 0), refusal(7, 0), sampled, 0);
 
     printf("%u passed, %u failed\n", passed, failed);
     return failed > 0;

@@ -8,7 +8,7 @@
 #include <string.h>
 #include <ucontext.h>
 
-enum { PAINT = 0xA5, RECORD = 96, FULL = 500 * RECORD, TEXT = 64000, SITE = 50 };
+enum { PAINT = 0xA5, RECORD = 96, FULL = 500 * RECORD, TEXT = 64000, SITE = 50, MONTHS = 204 };
 
 #define NAME 'Z', 'Z', 'Z', 'Z', 'Z', 'Z', 'Z', 'Z'
 #define STAND 5, 25, 0x4E, 0x20, 6, 25, 0x4E, 0x20, 7, 25, 0x4E, 0x20, 8, 25, 0x4E, 0x20
@@ -23,9 +23,9 @@ static const uint8_t site[SITE] = {
     NAME, 8, 4, 100, 0, 200, 5, 0x0B, 0xB8, STAND, 4, 0x01, 0xF4, 85,
     0x13, 0x88, 0x4E, 0x20, 0x27, 0x10, 0x13, 0x88, 0x03, 0xE8, 0xFF, 0xFF, 0xFF, 0xFF,
 };
-static const uint8_t bad_site[SITE];
+static const uint8_t bad_site[SITE], months[MONTHS];
 static uint8_t file[FULL + 1], text[TEXT];
-static uint64_t numbers[8];
+static uint64_t numbers[10];
 
 struct input {
     const uint8_t *bytes;
@@ -33,7 +33,7 @@ struct input {
 };
 static const struct input files[4] = {{file, FULL, TEXT}, {file, FULL + 1, TEXT}, {file, FULL, 0}, {NULL, 0, 0}};
 static const struct input records[4] = {{file, RECORD, TEXT}, {file, RECORD + 1, TEXT}, {file, RECORD, 0}, {NULL, 0, 0}};
-static const struct input sites[4] = {{site, SITE, 8}, {bad_site, SITE, 8}, {site, SITE, 0}, {NULL, 0, 0}};
+static const struct input sites[4] = {{site, SITE, 10}, {bad_site, SITE, 10}, {site, SITE, 0}, {NULL, 0, 0}};
 
 static struct input in;
 static uint8_t *bytes_out(void) { return in.room ? text : NULL; }
@@ -46,6 +46,7 @@ static void rewrite(void) { forest_rewrite(in.bytes, in.length, bytes_out(), in.
 static void check(void) { forest_check(in.bytes, in.length); }
 static void loads(void) { forest_loads(in.bytes, in.length, numbers_out(), in.room); }
 static void judge(void) { forest_judge(in.bytes, in.length, numbers_out(), in.room); }
+static void sample(void) { forest_sample(in.bytes, in.length, months, MONTHS, numbers_out(), in.room); }
 
 /* How many bytes of a fresh stack a call has touched. */
 static size_t stack_of(void (*call)(void)) {
@@ -85,4 +86,5 @@ int main(void) {
     measure("forest_check", check, sites);
     measure("forest_loads", loads, sites);
     measure("forest_judge", judge, sites);
+    measure("forest_sample", sample, sites);
 }

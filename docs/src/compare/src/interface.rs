@@ -1,51 +1,51 @@
-//! The seven calls of `docs/forest.h`, by the static library and by the independent implementation.
+//! The eight calls of `docs/forest.h`, by the static library and by the independent implementation.
 
-use forest::{Refusal, Site, Verdict};
+use forest::{Judgement, Refusal, Sampled, Site, Verdict};
 
-/// A call: input, lent buffer of elements `T`, result.
-pub struct Call<T> {
+/// A call: its inputs, a lent buffer of elements `T`, the result.
+pub struct Call<T, const INPUTS: usize = 1> {
     pub name: &'static str,
-    pub library: fn(&[u8], &mut [T]) -> u64,
-    pub reference: fn(&[u8], &mut [T]) -> u64,
+    pub library: fn([&[u8]; INPUTS], &mut [T]) -> u64,
+    pub reference: fn([&[u8]; INPUTS], &mut [T]) -> u64,
 }
 
 pub const LIST: Call<u8> = Call {
     name: "forest_list",
-    library: |file, out| unsafe {
+    library: |[file], out| unsafe {
         c::forest_list(file.as_ptr(), file.len(), out.as_mut_ptr(), out.len())
     },
-    reference: |file, out| result(forest::list(file, out)),
+    reference: |[file], out| result(forest::list(file, out)),
 };
 
 pub const PAGES: Call<u8> = Call {
     name: "forest_pages",
-    library: |file, out| unsafe {
+    library: |[file], out| unsafe {
         c::forest_pages(file.as_ptr(), file.len(), out.as_mut_ptr(), out.len())
     },
-    reference: |file, out| result(forest::pages(file, out)),
+    reference: |[file], out| result(forest::pages(file, out)),
 };
 
 pub const REPORT: Call<u8> = Call {
     name: "forest_report",
-    library: |file, out| unsafe {
+    library: |[file], out| unsafe {
         c::forest_report(file.as_ptr(), file.len(), out.as_mut_ptr(), out.len())
     },
-    reference: |file, out| result(forest::report(file, out)),
+    reference: |[file], out| result(forest::report(file, out)),
 };
 
 pub const REWRITE: Call<u8> = Call {
     name: "forest_rewrite",
-    library: |record, out| unsafe {
+    library: |[record], out| unsafe {
         c::forest_rewrite(record.as_ptr(), record.len(), out.as_mut_ptr(), out.len())
     },
-    reference: |record, out| result(forest::rewrite(record, out)),
+    reference: |[record], out| result(forest::rewrite(record, out)),
 };
 
 /// The check takes no buffer.
 pub const CHECK: Call<u64> = Call {
     name: "forest_check",
-    library: |site, _| unsafe { c::forest_check(site.as_ptr(), site.len()) },
-    reference: |site, _| {
+    library: |[site], _| unsafe { c::forest_check(site.as_ptr(), site.len()) },
+    reference: |[site], _| {
         let checked = Site::from_bytes(site).and_then(|site| forest::check(&site));
         result(checked.map(|()| 0))
     },
@@ -53,10 +53,10 @@ pub const CHECK: Call<u64> = Call {
 
 pub const LOADS: Call<u64> = Call {
     name: "forest_loads",
-    library: |site, out| unsafe {
+    library: |[site], out| unsafe {
         c::forest_loads(site.as_ptr(), site.len(), out.as_mut_ptr(), out.len())
     },
-    reference: |site, out| match Site::from_bytes(site).and_then(|site| forest::loads(&site)) {
+    reference: |[site], out| match Site::from_bytes(site).and_then(|site| forest::loads(&site)) {
         Ok(loads) => enter(&[loads.max_s, loads.min_n, loads.max_n, loads.nut_n], out),
         Err(refusal) => refused(refusal),
     },
@@ -64,17 +64,49 @@ pub const LOADS: Call<u64> = Call {
 
 pub const JUDGE: Call<u64> = Call {
     name: "forest_judge",
-    library: |site, out| unsafe {
+    library: |[site], out| unsafe {
         c::forest_judge(site.as_ptr(), site.len(), out.as_mut_ptr(), out.len())
     },
-    reference: |site, out| match Site::from_bytes(site).and_then(|site| forest::judge(&site)) {
-        Ok(judgement) => {
-            let mark = i64::from(judgement.verdict != Verdict::Within);
-            enter(&[&judgement.numbers()[..], &[mark]].concat(), out)
+    reference: |[site], out| match Site::from_bytes(site).and_then(|site| forest::judge(&site)) {
+        Ok(judgement) => enter(&judged(&judgement), out),
+        Err(refusal) => refused(refusal),
+    },
+};
+
+/// A site value, and the twelve months of the rain sampler.
+pub const SAMPLE: Call<u64, 2> = Call {
+    name: "forest_sample",
+    library: |[site, months], out| unsafe {
+        c::forest_sample(
+            site.as_ptr(),
+            site.len(),
+            months.as_ptr(),
+            months.len(),
+            out.as_mut_ptr(),
+            out.len(),
+        )
+    },
+    reference: |[site, months], out| match sample(site, months) {
+        Ok(sampled) => {
+            let pair = [sampled.sulphur, sampled.nitrogen].map(i64::from);
+            enter(&[&pair[..], &judged(&sampled.judgement)].concat(), out)
         }
         Err(refusal) => refused(refusal),
     },
 };
+
+/// The site's checks come before the length of the months.
+fn sample(site: &[u8], months: &[u8]) -> Result<Sampled, Refusal> {
+    let site = Site::from_bytes(site)?;
+    forest::check(&site)?;
+    forest::sample(&site, &forest::months_from_bytes(months)?)
+}
+
+/// The eight numbers of a judgement.
+fn judged(judgement: &Judgement) -> Vec<i64> {
+    let mark = i64::from(judgement.verdict != Verdict::Within);
+    [&judgement.numbers()[..], &[mark]].concat()
+}
 
 mod c {
     extern "C" {
@@ -93,6 +125,14 @@ mod c {
             -> u64;
         pub fn forest_judge(site: *const u8, site_len: usize, out: *mut u64, out_len: usize)
             -> u64;
+        pub fn forest_sample(
+            site: *const u8,
+            site_len: usize,
+            months: *const u8,
+            months_len: usize,
+            out: *mut u64,
+            out_len: usize,
+        ) -> u64;
     }
 }
 

@@ -2,5 +2,6 @@
 
 pub mod files;
 pub mod interface;
+pub mod months;
 pub mod random;
 pub mod sites;

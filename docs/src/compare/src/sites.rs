@@ -4,7 +4,7 @@ use crate::random::Random;
 use forest::{Entry, Site, Terms};
 
 /// A number in its range, often at or near an end.
-fn ranged(random: &mut Random, low: i64, high: i64) -> i64 {
+pub(crate) fn ranged(random: &mut Random, low: i64, high: i64) -> i64 {
     match random.below(8) {
         0 => low,
         1 => high,

@@ -1,4 +1,5 @@
-//! Critical loads, exceedances and verdicts of forest sites, as document 01 and E2 of document 02 state them, and the pages of E1.
+//! Critical loads, exceedances and verdicts of forest sites, as document 01 and E2 of document 02 state them, with the pages of E1 and
+//! the rain sampler of E3.
 //!
 //! Numbers are `i64` throughout: the greatest product, Q × K × h³, is 3.75 × 10¹⁸.
 
@@ -7,6 +8,7 @@ mod listing;
 mod pages;
 mod record;
 mod refusal;
+mod sampler;
 mod site;
 mod terms;
 
@@ -15,5 +17,6 @@ pub use listing::{list, report};
 pub use pages::pages;
 pub use record::{read_record, rewrite, write_record};
 pub use refusal::{Refusal, Rule};
+pub use sampler::{months_from_bytes, sample, year, Month, Reading, Sampled};
 pub use site::{check, Entry, Site};
 pub use terms::{aluminium, hydrogen, loads, texture_class, Loads, Terms};

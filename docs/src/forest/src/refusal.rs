@@ -1,6 +1,6 @@
 use std::fmt;
 
-/// The numbered checks of document 01.
+/// The numbered checks of documents 01 and 02.
 #[derive(Clone, Copy, Debug, PartialEq, Eq)]
 pub enum Rule {
     NoBytes = 1,
@@ -14,6 +14,9 @@ pub enum Rule {
     Species = 9,
     Shares = 10,
     Buffer = 11,
+    Concentration = 12,
+    Missing = 13,
+    Pair = 14,
 }
 
 /// A broken rule, and where in the lent input.

@@ -16,9 +16,9 @@ const REPEATS: usize = 8;
 fn main() {
     let (file, hydrogen_bound) = full_file();
     let (mut ours, mut theirs) = (vec![0; 64_000], vec![0; 64_000]);
-    let length = (LIST.reference)(&file, &mut ours);
+    let length = (LIST.reference)([&file], &mut ours);
     assert_eq!(
-        (LIST.library)(&file, &mut theirs),
+        (LIST.library)([&file], &mut theirs),
         length,
         "the results differ"
     );
@@ -29,10 +29,10 @@ fn main() {
         RECORDS - hydrogen_bound
     );
 
-    let time = |list: fn(&[u8], &mut [u8]) -> u64, out: &mut [u8]| {
+    let time = |list: fn([&[u8]; 1], &mut [u8]) -> u64, out: &mut [u8]| {
         let start = Instant::now();
         for _ in 0..REPEATS {
-            black_box(list(black_box(&file), out));
+            black_box(list([black_box(&file)], out));
         }
         start.elapsed().as_nanos() as f64 / (REPEATS * RECORDS) as f64
     };

@@ -1,7 +1,7 @@
 //! One answer held against the other.
 
 use crate::tally::{Source, Tally, PAGE};
-use compare::interface::{Call, CHECK, JUDGE, LIST, LOADS, PAGES, REPORT, REWRITE};
+use compare::interface::{Call, CHECK, JUDGE, LIST, LOADS, PAGES, REPORT, REWRITE, SAMPLE};
 use compare::random::Random;
 use forest::Site;
 use std::fmt::LowerHex;
@@ -24,25 +24,25 @@ impl Comparison {
     /// A file through `forest_list`, `forest_pages` and `forest_report`.
     pub fn file(&mut self, random: &mut Random, file: &[u8]) {
         let mut room = vec![0; ROOM];
-        let full = (LIST.reference)(file, &mut room);
+        let full = (LIST.reference)([file], &mut room);
         for length in lengths(random, full) {
-            let result = self.call(random, &LIST, file, length);
+            let result = self.call(random, &LIST, [file], length);
             self.tally.answer(Source::List, result);
         }
         let records = records(&room, full);
-        let full = (PAGES.reference)(file, &mut room);
+        let full = (PAGES.reference)([file], &mut room);
         // 60 records have more bytes than a page: a file that may take two gets a buffer of one too.
         let one_page = (file.len() > PAGE).then_some(PAGE);
         for length in lengths(random, full).into_iter().chain(one_page) {
-            let result = self.call(random, &PAGES, file, length);
+            let result = self.call(random, &PAGES, [file], length);
             self.tally.pages(records, length, result);
             if result == full && full >> 32 == 0 {
                 self.tally.page_lines(&room[..full as usize]);
             }
         }
-        let full = (REPORT.reference)(file, &mut room);
+        let full = (REPORT.reference)([file], &mut room);
         for length in lengths(random, full) {
-            let result = self.call(random, &REPORT, file, length);
+            let result = self.call(random, &REPORT, [file], length);
             if result == full {
                 self.tally.printed(Source::Report, &room[..full as usize]);
             } else {
@@ -53,50 +53,64 @@ impl Comparison {
 
     /// A single record through `forest_rewrite`.
     pub fn record(&mut self, random: &mut Random, record: &[u8]) {
-        let full = (REWRITE.reference)(record, &mut [0; 96]);
+        let full = (REWRITE.reference)([record], &mut [0; 96]);
         for length in lengths(random, full) {
-            let result = self.call(random, &REWRITE, record, length);
+            let result = self.call(random, &REWRITE, [record], length);
             self.tally.answer(Source::Rewrite, result);
         }
     }
 
     /// A site value through `forest_check`, `forest_loads` and `forest_judge`.
     pub fn site(&mut self, random: &mut Random, value: &[u8]) {
-        let result = self.call(random, &CHECK, value, 0);
+        let result = self.call(random, &CHECK, [value], 0);
         self.tally.answer(Source::Check, result);
 
         let length = random.pick(&[4, 4, 4, 5, 8, 3, 1, 0]);
-        let result = self.call(random, &LOADS, value, length);
+        let result = self.call(random, &LOADS, [value], length);
         self.tally.answer(Source::Loads, result);
 
         let length = random.pick(&[8, 8, 8, 9, 12, 7, 4, 0]);
-        let result = self.call(random, &JUDGE, value, length);
+        let result = self.call(random, &JUDGE, [value], length);
         self.tally.answer(Source::Judge, result);
         let mut numbers = [0; 8];
-        if (JUDGE.reference)(value, &mut numbers) == 8 {
+        if (JUDGE.reference)([value], &mut numbers) == 8 {
             let site = Site::from_bytes(value).expect("50 bytes");
             self.tally.judged(&site, &numbers);
         }
     }
 
-    /// Both sides of a call. Input and buffer are lent from the middle of random bytes, and all of the bytes around the
+    /// A site value and the months of its sampler through `forest_sample`.
+    pub fn sample(&mut self, random: &mut Random, value: &[u8], months: &[u8]) {
+        let length = random.pick(&[10, 10, 10, 11, 14, 9, 8, 2, 0]);
+        let result = self.call(random, &SAMPLE, [value, months], length);
+        let mut numbers = [0; 10];
+        let result_with_room = (SAMPLE.reference)([value, months], &mut numbers);
+        self.tally.answer(Source::Sample, result);
+        self.tally.sampled(value, months, result_with_room, &numbers);
+    }
+
+    /// Both sides of a call. Inputs and buffer are lent from the middle of random bytes, and all of the bytes around the
     /// buffer are compared too. Returns the reference's result.
-    fn call<T: Element>(
+    fn call<T: Element, const INPUTS: usize>(
         &mut self,
         random: &mut Random,
-        call: &Call<T>,
-        input: &[u8],
+        call: &Call<T, INPUTS>,
+        inputs: [&[u8]; INPUTS],
         length: usize,
     ) -> u64 {
         let before = random.between(1, 16) as usize;
         let mut ours: Vec<T> = T::random(random, before + length + 16);
         let mut theirs = ours.clone();
         let lent = before..before + length;
-        let mut around = random.bytes(before + input.len() + 16);
-        around[before..before + input.len()].copy_from_slice(input);
-        let input = &around[before..before + input.len()];
-        let library = (call.library)(input, &mut theirs[lent.clone()]);
-        let reference = (call.reference)(input, &mut ours[lent]);
+        let around = inputs.map(|input| {
+            let mut around = random.bytes(before + input.len() + 16);
+            around[before..before + input.len()].copy_from_slice(input);
+            around
+        });
+        let within = |around: &'_ Vec<u8>| before..around.len() - 16;
+        let inputs = around.each_ref().map(|around| &around[within(around)]);
+        let library = (call.library)(inputs, &mut theirs[lent.clone()]);
+        let reference = (call.reference)(inputs, &mut ours[lent]);
         if library == reference && theirs == ours {
             self.passed += 1;
         } else {
@@ -105,7 +119,9 @@ impl Comparison {
                     "{} with a buffer of {length}, {before} before it",
                     call.name
                 );
-                println!("input      {}", hex(input));
+                for input in inputs {
+                    println!("input      {}", hex(input));
+                }
                 println!(
                     "library    {}\n           {}",
                     answer(library),
@@ -124,7 +140,7 @@ impl Comparison {
     /// A file through the program: all that it prints. With `pieces` the file is written bit by bit.
     pub fn program(&mut self, random: &mut Random, path: &str, file: &[u8], pieces: bool) {
         let mut room = vec![0; ROOM];
-        let length = (REPORT.reference)(file, &mut room) as usize;
+        let length = (REPORT.reference)([file], &mut room) as usize;
         let expected = &room[..length];
         let pieces = if pieces {
             cut(random, file)

@@ -2,10 +2,11 @@
 
 mod comparison;
 mod edges;
+mod sampled;
 mod tally;
 
 use compare::random::Random;
-use compare::{files, sites};
+use compare::{files, months, sites};
 use comparison::Comparison;
 use std::process::ExitCode;
 
@@ -48,6 +49,7 @@ fn main() -> ExitCode {
     let mut comparison = Comparison::default();
 
     let (sites, records, files) = (scaled(1_500_000.0), scaled(600_000.0), scaled(120_000.0));
+    let years = scaled(600_000.0);
     for _ in 0..sites {
         let value = sites::value(&mut random);
         comparison.site(&mut random, &value);
@@ -66,7 +68,11 @@ fn main() -> ExitCode {
     for file in files::page_border_files(&mut random) {
         comparison.file(&mut random, &file);
     }
-    println!("{sites} site values, {records} single records, {files} files");
+    for _ in 0..years {
+        let (value, months) = months::sampled_site(&mut random);
+        comparison.sample(&mut random, &value, &months);
+    }
+    println!("{sites} site values, {records} single records, {files} files, {years} years");
 
     if let Some(path) = &options.program {
         let runs = scaled(1000.0);

@@ -1,5 +1,6 @@
 //! How often each kind of answer, site and file occurred.
 
+use crate::sampled::Sampled;
 use compare::files::PAGE_BORDERS;
 use forest::{Site, Terms};
 use std::ops::RangeInclusive;
@@ -13,11 +14,12 @@ pub enum Source {
     Check,
     Loads,
     Judge,
+    Sample,
     Program,
 }
 
 /// The sources, and the rules that each can refuse by.
-const SOURCES: [(&str, RangeInclusive<usize>); 8] = [
+const SOURCES: [(&str, RangeInclusive<usize>); 9] = [
     ("list", 1..=11),
     ("pages", 1..=11),
     ("report", 1..=11),
@@ -25,6 +27,7 @@ const SOURCES: [(&str, RangeInclusive<usize>); 8] = [
     ("check", 7..=10),
     ("loads", 7..=11),
     ("judge", 7..=11),
+    ("sample", 7..=14),
     ("program", 1..=10),
 ];
 
@@ -44,6 +47,7 @@ const SPECIES: [&str; 9] = [
 const JUDGE: usize = 0;
 const LINES: usize = 1;
 const PAGE_LINES: usize = 2;
+const SAMPLE: usize = 3;
 
 /// The bytes of a full page.
 pub const PAGE: usize = 60 * 65;
@@ -53,12 +57,12 @@ const PAGE_RECORDS: usize = 59 * 96;
 #[derive(Default)]
 pub struct Tally {
     /// By source, then by rule; 0 stands for success.
-    answers: [[u64; 12]; 8],
-    /// By judge, by lines of listings and by lines of pages, as the next three.
-    regions: [[u64; 5]; 3],
-    within: [u64; 3],
-    over: [u64; 3],
-    over_by_nutrient_alone: [u64; 3],
+    answers: [[u64; 15]; 9],
+    /// By judge, by lines of listings, by lines of pages and by sample, as the next three.
+    regions: [[u64; 5]; 4],
+    within: [u64; 4],
+    over: [u64; 4],
+    over_by_nutrient_alone: [u64; 4],
     /// Successes for files of so many records, and for files of more than a page.
     page_borders: [u64; PAGE_BORDERS.len()],
     page_breaks: u64,
@@ -74,6 +78,7 @@ pub struct Tally {
     species: [u64; 9],
     hydrogen_bound: u64,
     aluminium_bound: u64,
+    sampled: Sampled,
 }
 
 impl Tally {
@@ -155,15 +160,26 @@ impl Tally {
         }
     }
 
+    /// A site value with its sampler's months: the result in a buffer with room, and the numbers there.
+    pub fn sampled(&mut self, value: &[u8], months: &[u8], result: u64, numbers: &[u64; 10]) {
+        if result == 10 {
+            self.verdict(SAMPLE, numbers[6] as usize, numbers[9] == 1);
+        }
+        let Ok(site) = Site::from_bytes(value) else {
+            return;
+        };
+        self.sampled.count(&site, months, result, numbers);
+    }
+
     /// Prints the counts and returns how many kinds are due and never occurred.
     pub fn print(&self, with_program: bool) -> u64 {
         let mut absent = 0;
-        let sources = &SOURCES[..if with_program { 8 } else { 7 }];
+        let sources = &SOURCES[..if with_program { 9 } else { 8 }];
 
         print!("{:<24}", "");
         sources.iter().for_each(|(name, _)| print!("{name:>10}"));
         println!();
-        for rule in 0..=11 {
+        for rule in 0..=14 {
             match rule {
                 0 => print!("{:<24}", "success"),
                 _ => print!("{:<24}", format!("refusal {rule}")),
@@ -174,7 +190,10 @@ impl Tally {
             println!();
         }
 
-        println!("\n{:<24}{:>10}{:>10}{:>10}", "", "judge", "lines", "pages");
+        print!("\n{:<24}", "");
+        let by = ["judge", "lines", "pages", "sample"];
+        by.iter().for_each(|name| print!("{name:>10}"));
+        println!();
         for region in 0..5 {
             print!("{:<24}", format!("region {region}"));
             absent += row(&self.regions.map(|counts| counts[region]));
@@ -210,7 +229,8 @@ impl Tally {
         kinds.push((named("page break"), self.page_breaks));
         kinds.push((named("11, room for a page"), self.room_for_a_page));
         kinds.push((named("fault after a page"), self.fault_after_a_page));
-        absent + column("pages", kinds)
+        absent += column("pages", kinds);
+        absent + column("sample", self.sampled.kinds())
     }
 }
 

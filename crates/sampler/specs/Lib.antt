@@ -1,0 +1,8 @@
+pub mod Micrograms
+pub mod FloatBits
+pub mod MonthRules
+pub mod YearPair
+pub mod FirstMonth
+pub mod SampleAnswers
+pub mod MonthBytes
+pub mod Cases
