@@ -42,11 +42,11 @@ later i m ms y z p (behind q e) = behind (one-more m ms (length ms) p q) e
 
 ends : (i : ℕ) (ms : List Month) (y : Year) → Ends i ms y (monthsChecked i ms y)
 ends i [] y = behind (none-before []) refl
-ends i (m ∷ ms) y = go (monthRule m) refl
+ends i (m ∷ ms) y = go (monthRule m) refl (ends (suc i) ms y)
   where
-    go : (c : Checked) → monthRule m ≡ c → Ends i (m ∷ ms) y (unlessAt c i (monthsChecked (suc i) ms y))
-    go Passed e = later i m ms y (monthsChecked (suc i) ms y) e (ends (suc i) ms y)
-    go (Broken r) e =
+    go : (c : Checked) → monthRule m ≡ c → Ends (suc i) ms y (monthsChecked (suc i) ms y) → Ends i (m ∷ ms) y (unlessAt c i (monthsChecked (suc i) ms y))
+    go Passed e rest = later i m ms y (monthsChecked (suc i) ms y) e rest
+    go (Broken r) e rest =
         let same : i + 0 ≡ i = omega arith in
         at-month r 0 (record { inside = omega arith; before = none-before (m ∷ ms); broken = λ d. e }) (rw same)
 

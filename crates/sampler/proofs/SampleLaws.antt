@@ -94,11 +94,10 @@ not-given rule at p e = let z : _≡_ {A = ℕ} 0 1 = cc in omega arith
 module _ (s : Site) (ms : List Month) where
   -- what an answer that is given says
   pub sample-given : (p : Sampled) → sampleAnswer s ms ≡ Given p → (siteRule s ≡ Passed) × ByKey s ms p
-  unfolding sampleAnswer
+  unfolding sampleAnswer checkedFirst yearAnswer
   sample-given p = go (siteRule s) refl (yearOf ms) refl
     where
       go : (c : Checked) → siteRule s ≡ c → (y : Year) → yearOf ms ≡ y → checkedFirst c (yearAnswer s y) ≡ Given p → (siteRule s ≡ Passed) × ByKey s ms p
-      unfolding checkedFirst yearAnswer
       go (Broken r) e y f q = absurd (not-given r 0 p q)
       go Passed e (YearRefused r i) f q = absurd (not-given r i p q)
       go Passed e (Pair S N) f q =
@@ -113,11 +112,10 @@ module _ (s : Site) (ms : List Month) where
       rw j (pair-tells s (p .sulphur) (p .nitrogen) (g .0))
 
   answer-values : sampleValues (sampleAnswer s ms) ≡ valuesIf (siteRule s) (yearValues (termsOf s) (yearOf ms))
-  unfolding sampleAnswer
+  unfolding sampleAnswer checkedFirst yearAnswer valuesIf yearValues sampleValues
   answer-values = go (siteRule s) refl (yearOf ms)
     where
       go : (c : Checked) → siteRule s ≡ c → (y : Year) → sampleValues (checkedFirst c (yearAnswer s y)) ≡ valuesIf c (yearValues (termsOf s) y)
-      unfolding checkedFirst yearAnswer valuesIf yearValues sampleValues
       go (Broken r) e y = refl
       go Passed e (YearRefused r i) = refl
       go Passed e (Pair S N) = keyed-values s S N e
@@ -148,6 +146,7 @@ keyed-at S N (Judgement j) rule at e = let z : _≡_ {A = ℕ} 0 1 = cc in absur
 keyed-at S N (NotJudged r) rule at e = cc
 
 pub year-at : (s : Site) (ms : List Month) → length ms ≡ 12 → (rule : Rule) (at : ℕ) → yearAnswer s (yearOf ms) ≡ Refused rule at → at ≤ 12
+unfolding yearAnswer
 year-at s ms l rule at = go (yearOf ms) refl
   where
     placed : (r : Rule) (i : ℕ) → ByMonth ms r i ⊎ ByYear ms r i → i ≤ 12
@@ -155,6 +154,5 @@ year-at s ms l rule at = go (yearOf ms) refl
     placed r i (inr f) = let h = f .at-12 in omega arith
 
     go : (y : Year) → yearOf ms ≡ y → yearAnswer s y ≡ Refused rule at → at ≤ 12
-    unfolding yearAnswer
     go (Pair S N) f e = let z = keyed-at S N (judgementAnswer (withPair s S N)) rule at e in omega arith
     go (YearRefused r i) f e = let same : i ≡ at = cc in omega (arith, placed r i (year-refused ms f))

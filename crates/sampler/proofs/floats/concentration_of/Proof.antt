@@ -1,14 +1,10 @@
-use borrow.Author.Needs.{needs}
-use Prim.Native.Nat.{ℕ, _+_, _*_, _-_, _/_, _%_, _^_, _≤_, _<_}
-use mathlib.Core.Path.{_≡_, refl, sym, ap, _∙_, subst}
-use native.Mathlib.Omega.{arith}
-use mathlib.Core.Bool.{true, false}
+use Prim.Native.Nat.{_<_}
+use mathlib.Core.Path.{_≡_, sym, subst}
 use lib.Dec.{T}
-use lib.Ieee.{Float, binary32, fits, ofBits, toBits, le}
-use Rattle.sampler.specs.Micro.{ceil, takenOf}
-use Rattle.sampler.specs.Patterns.{field, units}
-use Rattle.sampler.specs.declared.Taken.the-variants.{Good, Broken}
-use Rattle.sampler.proofs.FloatLaws.{zeroF, thousandF, Inside, inside, no-nan, taken-low, taken-high, field-small, taken-bits, bits-le}
+use lib.Ieee.{binary32, fits, ofBits, toBits}
+use lib.Ieee.Bits.{toBits-lt}
+use Rattle.sampler.proofs.ConcentrationLaws.{Inside, inside, below-zero, above-most, no-nan, exponent-small, taken-bits}
+use borrow.Author.Needs.{needs}
 use Rattle.sampler.proofs.floats.concentration_of.Statement.{statement}
 use Rattle.sampler.proofs.floats.concentration_of.Tie as tie
 
@@ -21,39 +17,29 @@ in-range : (c : tie.Then2) → Inside (c .before .before .args .x)
 unfolding ofBits
 in-range c = inside (c .before .before .args .x) (c .before .if1 .taken) (c .if2 .taken)
 
-float-to-bits-wide : tie.Need-float-to-bits-wide
-float-to-bits-wide c = no-nan (c .before .before .args .x) (in-range c)
+float-to-bits-b : tie.Need-float-to-bits-b
+float-to-bits-b c = no-nan (c .before .before .args .x) (in-range c)
 
-wide-requires : tie.Need-wide-requires
-wide-requires c κs = search needs
+cast-b : tie.Need-cast-b
+cast-b c =
+    let x = c .before .before .args .x in
+    let l : toBits binary32 x < 4294967296 = toBits-lt binary32 x (held (c .before .before)) in
+    search needs
 
-from-bits-requires : tie.Need-from-bits-requires
-from-bits-requires c κs = rw (c .wide .ensures) (field-small _ (held (c .before .before .before)) (in-range (c .before)))
-
-narrow-requires : tie.Need-narrow-requires
-narrow-requires c κs = rw (c .from-bits .ensures, c .before .wide .ensures) (bits-le _ (held (c .before .before .before .before)) (in-range (c .before .before)))
+scaled-bits-requires : tie.Need-scaled-bits-requires
+scaled-bits-requires c κs = exponent-small _ (held (c .before .before)) (in-range c)
 
 returns : tie.Need-returns
-returns c =
-    let s = c .before .before .before .before .before in
-    rw (c .narrow .ensures, c .before .from-bits .ensures, c .before .before .wide .ensures) (sym (taken-bits _ (held s) (in-range (c .before .before .before))))
+returns c = rw (c .scaled-bits .ensures) (sym (taken-bits _ (held (c .before .before .before)) (in-range (c .before))))
 
 returns-2 : tie.Need-returns-2
 unfolding ofBits
-returns-2 c = sym (taken-high _ (c .if2 .left))
+returns-2 c = sym (above-most _ (c .if2 .left))
 
 returns-3 : tie.Need-returns-3
 unfolding ofBits
-returns-3 c = sym (taken-low _ (c .if1 .left))
+returns-3 c = sym (below-zero _ (c .if1 .left))
 
-pub micrograms-spec : {M : Type 1} → statement M
-micrograms-spec =
-    tie.close
-    (tie.spec
-    float-to-bits-wide
-    wide-requires
-    from-bits-requires
-    narrow-requires
-    returns
-    returns-2
-    returns-3)
+pub concentration-of-spec : {M : Type 1} → statement M
+concentration-of-spec =
+    tie.close (tie.spec float-to-bits-b cast-b scaled-bits-requires returns returns-2 returns-3)

@@ -1,7 +1,5 @@
+use Rattle.site.specs.Refusal.{andThen}
 use borrow.Author.Needs.{needs}
-use Prim.Native.Nat.{ℕ, _+_, _*_, _-_, _/_, _^_, _≤_, _<_}
-use mathlib.Core.Path.{_≡_, refl, sym, ap, _∙_}
-use native.Mathlib.Omega.{arith}
 use Rattle.sampler.proofs.months.combined.Statement.{statement}
 use Rattle.sampler.proofs.months.combined.Tie as tie
 
@@ -23,44 +21,35 @@ enum-known-a c = search needs
 enum-known-a-2 : tie.Need-enum-known-a-2
 enum-known-a-2 c = search needs
 
-wide-requires : tie.Need-wide-requires
-wide-requires c κs = search needs
-
-wide-requires-2 : tie.Need-wide-requires-2
-wide-requires-2 c κs = search needs
-
-wide-requires-3 : tie.Need-wide-requires-3
-wide-requires-3 c κs = search needs
-
 brought-requires : tie.Need-brought-requires
 brought-requires c κs =
-    let a2 = c .before .before .before .before in
+    let a2 = c .before in
     let n2 = a2 .before .before .before in
     let s2 = n2 .before .before .before in
     let p = s2 .before .before .pre in
-    let x = rw (s2 .s2 .given .1) at (p .1) in
-    let y = rw (n2 .n2 .given .1) at (p .2) in
-    let z = rw (a2 .a2 .given .1) at (p .3) in
-    (p .0, rw (c .before .before .wide .ensures) x, rw (c .before .wide2 .ensures) y, rw (c .wide3 .ensures) z)
+    (p .0, rw (s2 .s2 .given .1) at (p .1), rw (n2 .n2 .given .1) at (p .2), rw (a2 .a2 .given .1) at (p .3))
 
 returns : tie.Need-returns
+unfolding andThen
 returns c = rw (c .before .s .given .1)
 
 returns-2 : tie.Need-returns-2
+unfolding andThen
 returns-2 c = rw (c .before .before .before .before .s2 .given .1, c .before .n .given .1)
 
 returns-3 : tie.Need-returns-3
+unfolding andThen
 returns-3 c =
     let n2 = c .before .before .before .before in
     rw (n2 .before .before .before .s2 .given .1, n2 .n2 .given .1, c .before .a .given .1)
 
 returns-4 : tie.Need-returns-4
+unfolding andThen
 returns-4 c =
-    let a2 = c .before .before .before .before .before in
+    let a2 = c .before .before in
     let n2 = a2 .before .before .before in
     let s2 = n2 .before .before .before in
-    rw (s2 .s2 .given .1, n2 .n2 .given .1, a2 .a2 .given .1)
-    (rw (c .before .before .before .wide .ensures, c .before .before .wide2 .ensures, c .before .wide3 .ensures) at (c .brought .ensures))
+    rw (s2 .s2 .given .1, n2 .n2 .given .1, a2 .a2 .given .1) (c .brought .ensures)
 
 pub combined-spec : {M : Type 1} → statement M
 combined-spec =
@@ -72,9 +61,6 @@ combined-spec =
     enum-known-n-2
     enum-known-a
     enum-known-a-2
-    wide-requires
-    wide-requires-2
-    wide-requires-3
     brought-requires
     returns
     returns-2

@@ -1,9 +1,8 @@
-use borrow.Author.Needs.{needs}
-use Prim.Native.Nat.{ℕ, _+_, _*_, _-_, _/_, _^_, _≤_, _<_}
-use mathlib.Core.Path.{_≡_, refl, sym, ap, _∙_}
+use Prim.Native.Nat.{ℕ}
 use native.Mathlib.Omega.{arith}
 use borrow.Author.Tests.{le-leb, lt-leb}
-use Rattle.sampler.specs.Micro.{ceil}
+use Rattle.loads.specs.Rounding.{up}
+use borrow.Author.Needs.{needs}
 use Rattle.sampler.proofs.years.divided.Statement.{statement}
 use Rattle.sampler.proofs.years.divided.Tie as tie
 
@@ -14,32 +13,27 @@ add-nitrogen : tie.Need-add-nitrogen
 add-nitrogen c = search needs
 
 returns : tie.Need-returns
-returns c = rw (lt-leb (ceil (c .before .args .s) 1600) 65535 (omega arith))
+unfolding up
+returns c = rw (lt-leb (up (c .before .args .s) 1600) 65535 (omega arith))
 
 returns-2 : tie.Need-returns-2
+unfolding up
 returns-2 c =
     let a = c .before .before .args in
-    rw (le-leb (ceil (a .s) 1600) 65535 (omega arith), lt-leb (ceil (a .n) 1400) 65535 (omega arith))
+    rw (le-leb (up (a .s) 1600) 65535 (omega arith), lt-leb (up (a .n) 1400) 65535 (omega arith))
 
-narrow16-requires : tie.Need-narrow16-requires
-narrow16-requires c κs = search needs
+cast-t9 : tie.Need-cast-t9
+cast-t9 c = search needs
 
-narrow16-requires-2 : tie.Need-narrow16-requires-2
-narrow16-requires-2 c κs = search needs
+cast-t10 : tie.Need-cast-t10
+cast-t10 c = search needs
 
 returns-3 : tie.Need-returns-3
+unfolding up
 returns-3 c =
-    let a = c .before .before .before .before .args in
-    rw (le-leb (ceil (a .s) 1600) 65535 (omega arith), le-leb (ceil (a .n) 1400) 65535 (omega arith), c .before .narrow16 .ensures, c .narrow162 .ensures)
+    let a = c .before .before .args in
+    rw (le-leb (up (a .s) 1600) 65535 (omega arith), le-leb (up (a .n) 1400) 65535 (omega arith))
 
 pub divided-spec : {M : Type 1} → statement M
 divided-spec =
-    tie.close
-    (tie.spec
-    add-sulphur
-    add-nitrogen
-    returns
-    returns-2
-    narrow16-requires
-    narrow16-requires-2
-    returns-3)
+    tie.close (tie.spec add-sulphur add-nitrogen returns returns-2 cast-t9 cast-t10 returns-3)
