@@ -1,4 +1,5 @@
 pub mod CodeLaws
 pub mod FileCallLaws
 pub mod SiteValueLaws
+pub mod SampleCallLaws
 pub mod RewriteLaws

@@ -71,7 +71,7 @@ module _ (b : List ℕ) (needed : ℕ) (small : needed < codeBase) (xs old : Lis
   unfolding answerIf heldAfter writtenCode
   value-written e l h w = let q = output-whole needed (length old) (valueCheck b) e h in promised (rw q) (rw q (in-front w (omega arith) .1))
 
-length-marked : (v : Verdict) → length (verdictMarked v) ≡ 4
+pub length-marked : (v : Verdict) → length (verdictMarked v) ≡ 4
 unfolding verdictMarked verdictNumbers
 length-marked Within = refl
 length-marked (Over r x y) = refl
@@ -82,15 +82,15 @@ length-judged s = omega (arith, length-marked (verdict (termsOf s) (s .sulphur) 
 
 -- ---- demand 3 of the mark
 
-mark-tells : (s : Site) → siteRule s ≡ Passed → MarkSays (markNumber (verdict (termsOf s) (s .sulphur) (s .nitrogen))) s
+pub mark-tells : (s : Site) → siteRule s ≡ Passed → MarkSays (markNumber (verdict (termsOf s) (s .sulphur) (s .nitrogen))) s
 unfolding markNumber
 mark-tells s p = verdict-tells (termsOf s) (site-bounds s p) (s .sulphur) (s .nitrogen) markNumber refl (λ r a n. refl) (λ e. omega arith)
 
-value-passes : (b : List ℕ) → valueCheck b ≡ Passed → siteRule (siteIn b) ≡ Passed
+pub value-passes : (b : List ℕ) → valueCheck b ≡ Passed → siteRule (siteIn b) ≡ Passed
 unfolding valueCheck
 value-passes b e = both-passed _ _ e .1
 
-mark-at : (v : Verdict) (rest : List ℕ) → getD (verdictMarked v ++ rest) 3 0 ≡ markNumber v
+pub mark-at : (v : Verdict) (rest : List ℕ) → getD (verdictMarked v ++ rest) 3 0 ≡ markNumber v
 unfolding verdictMarked verdictNumbers markNumber
 mark-at Within rest = refl
 mark-at (Over g x y) rest = refl

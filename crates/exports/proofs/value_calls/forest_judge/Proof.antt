@@ -5,12 +5,10 @@ use denote.Ref.{now}
 use Rattle.site.specs.Check.{siteRule}
 use Rattle.site.specs.declared.Rule.the-variants.{BadLength}
 use Rattle.site.specs.declared.Checked.the-variants.{Passed}
-use Rattle.loads.specs.CriticalLoads.{loadNumbers}
 use Rattle.judgement.specs.Answers.{judgedOf}
 use Rattle.judgement.proofs.JudgementAnswers.{judgement-given, judgement-refused}
-use Rattle.exports.specs.Layout.{siteIn, valueCheck, siteLoadNumbers, judgementNumbers}
+use Rattle.exports.specs.Layout.{siteIn, valueCheck, siteLoadNumbers, judgedNumbers, judgementNumbers}
 use Rattle.exports.proofs.SiteValueLaws.{wrong-length, as-site, value-refused, value-short, value-written, length-judged, with-mark}
-use Rattle.output.proofs.WritingLaws.{then}
 use borrow.Author.Needs.{needs}
 use Rattle.exports.proofs.value_calls.forest_judge.Statement.{statement}
 use Rattle.exports.proofs.value_calls.forest_judge.Tie as tie
@@ -68,14 +66,8 @@ returns-2 c =
     rw (c .refusal-code3 .ensures)
     (with-mark b (now (s .args .out)) _ (value-short b 8 (omega arith) (judgementNumbers (siteIn b)) (now (s .args .out)) (judged-site (c .before .before) .0) (omega arith)))
 
-verdict-marked-requires : tie.Need-verdict-marked-requires
-verdict-marked-requires c κs = search needs
-
-put-four-requires : tie.Need-put-four-requires
-put-four-requires c κs = search needs
-
-put-four-requires-2 : tie.Need-put-four-requires-2
-put-four-requires-2 c κs = search needs
+put-judged-requires : tie.Need-put-judged-requires
+put-judged-requires c κs = search needs
 
 returns-3 : tie.Need-returns-3
 returns-3 c =
@@ -90,19 +82,15 @@ same-length : tie.Need-same-length
 same-length c = search needs
 
 returns-4 : tie.Need-returns-4
-unfolding judgementNumbers siteLoadNumbers judgedOf loadNumbers
+unfolding judgementNumbers siteLoadNumbers judgedNumbers judgedOf
 returns-4 c =
-    let second = c .before .before in
-    let first = second .before .before .before .before in
-    let marked = first .before .before in
-    let told = marked .before .before .before in
+    let put = c .before .before in
+    let told = put .before .before .before in
     let s = entry (told .before .before .before) in
     let b = now (s .args .site) in
     let old = now (s .args .out) in
     let j = judged-site told in
-    let w = then (first .put-four .ensures) (second .put-four2 .ensures) in
-    with-mark b old _ (value-written b 8 (omega arith) (judgementNumbers (siteIn b)) old (j .0) (length-judged (siteIn b)) (omega arith)
-    (rw (j .1) at (rw (marked .verdict-marked .ensures) at w)))
+    with-mark b old _ (value-written b 8 (omega arith) (judgementNumbers (siteIn b)) old (j .0) (length-judged (siteIn b)) (omega arith) (rw (j .1) at (put .put-judged .ensures)))
 
 pub forest-judge-spec : {M : Type 1} → statement M
 forest-judge-spec =
@@ -117,9 +105,7 @@ forest-judge-spec =
     enum-known-judged
     refusal-code-requires-3
     returns-2
-    verdict-marked-requires
-    put-four-requires
-    put-four-requires-2
+    put-judged-requires
     returns-3
     same-length
     returns-4)
