@@ -10,6 +10,9 @@ report-requires c κs = search needs
 print-written-requires : tie.Need-print-written-requires
 print-written-requires c κs = search needs
 
+print-months-requires : tie.Need-print-months-requires
+print-months-requires c κs = search needs
+
 print-pages-requires : tie.Need-print-pages-requires
 print-pages-requires c κs = search needs
 
@@ -40,17 +43,17 @@ returns c = search needs
 returns-2 : tie.Need-returns-2
 returns-2 c = search needs
 
-same-length-2 : tie.Need-same-length-2
-same-length-2 c = search needs
-
 returns-3 : tie.Need-returns-3
 returns-3 c = search needs
 
-same-length-3 : tie.Need-same-length-3
-same-length-3 c = search needs
+same-length-2 : tie.Need-same-length-2
+same-length-2 c = search needs
 
 returns-4 : tie.Need-returns-4
 returns-4 c = search needs
+
+same-length-3 : tie.Need-same-length-3
+same-length-3 c = search needs
 
 returns-5 : tie.Need-returns-5
 returns-5 c = search needs
@@ -64,12 +67,16 @@ returns-7 c = search needs
 returns-8 : tie.Need-returns-8
 returns-8 c = search needs
 
+returns-9 : tie.Need-returns-9
+returns-9 c = search needs
+
 pub print-vector-spec : {M : Type 1} → statement M
 print-vector-spec =
     tie.close
     (tie.spec
     report-requires
     print-written-requires
+    print-months-requires
     print-pages-requires
     print-rewritten-requires
     sub-print-rewritten
@@ -80,11 +87,12 @@ print-vector-spec =
     same-length
     returns
     returns-2
-    same-length-2
     returns-3
-    same-length-3
+    same-length-2
     returns-4
+    same-length-3
     returns-5
     returns-6
     returns-7
-    returns-8)
+    returns-8
+    returns-9)
