@@ -86,9 +86,10 @@ fn with_sums(random: &mut Random, sulphur: i64, nitrogen: i64) -> [Month; 12] {
 fn month(random: &mut Random, most: i64) -> Month {
     Month {
         rain: ranged(random, 0, 1000) as u16,
-        readings: [(); 3].map(|()| match random.below(12) {
-            0 => (random.below(2) as u8, random.between(0, MOST) as u32),
-            1 => (random.below(2) as u8, random.between(1, NORMAL) as u32),
+        readings: [(); 3].map(|()| match random.below(24) {
+            0 => (random.below(2) as u8, MOST as u32),
+            1 | 2 => (random.below(2) as u8, random.between(0, MOST) as u32),
+            3 | 4 => (random.below(2) as u8, random.between(1, NORMAL) as u32),
             _ => {
                 let micrograms = random.between(0, most);
                 reading(random, micrograms)

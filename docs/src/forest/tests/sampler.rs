@@ -103,7 +103,10 @@ fn months_are_checked_in_order() {
     assert_eq!(bad(month(1001, Missing, Missing, nan), 4), (8, 4));
     assert_eq!(bad(month(1000, nan, Missing, Missing), 11), (12, 11));
     assert_eq!(bad(month(0, Measured(3.0), Missing, nan), 2), (13, 2));
-    assert_eq!(bad(month(0, Measured(3.0), Below(-1.0), Missing), 0), (12, 0));
+    assert_eq!(
+        bad(month(0, Measured(3.0), Below(-1.0), Missing), 0),
+        (12, 0)
+    );
     assert_eq!(bad(month(0, Missing, Missing, Missing), 7), (13, 7));
     // A later month's fault comes before 14.
     let mut months = [month(1000, Measured(9.0), Measured(9.0), Measured(9.0)); 12];

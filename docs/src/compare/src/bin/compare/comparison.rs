@@ -86,7 +86,8 @@ impl Comparison {
         let mut numbers = [0; 10];
         let result_with_room = (SAMPLE.reference)([value, months], &mut numbers);
         self.tally.answer(Source::Sample, result);
-        self.tally.sampled(value, months, result_with_room, &numbers);
+        self.tally
+            .sampled(value, months, result_with_room, &numbers);
     }
 
     /// Both sides of a call. Inputs and buffer are lent from the middle of random bytes, and all of the bytes around the
