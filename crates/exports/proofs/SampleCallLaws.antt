@@ -47,16 +47,16 @@ use Rattle.exports.proofs.SiteValueLaws.{wrong-length, as-site, value-p
 -- ---- the bytes
 
 module _ (b m : List ℕ) where
-  pub site-length : (length b ≡ 50 → ⊥) → sampleIn b m ≡ Refused BadLength 0
-  unfolding sampleIn checkedFirst
-  site-length h = rw (wrong-length b h)
-
   pub months-length : length b ≡ 50 → (length m ≡ 204 → ⊥) → sampleIn b m ≡ checkedFirst (siteRule (siteIn b)) (Refused BadLength 0)
   unfolding sampleIn monthsLength checkedFirst
   months-length h n = rw (as-site b h, ne-eqb (length m) 204 n) (refused-first (siteRule (siteIn b)))
     where
       refused-first : (c : Checked) → checkedFirst c (checkedFirst (Broken BadLength) (yearAnswer (siteIn b) (yearOf (monthsIn m)))) ≡ checkedFirst c (Refused BadLength 0)
       refused-first c = refl
+
+  pub site-length : (length b ≡ 50 → ⊥) → sampleIn b m ≡ Refused BadLength 0
+  unfolding sampleIn checkedFirst
+  site-length h = rw (wrong-length b h)
 
   pub both-whole : length b ≡ 50 → length m ≡ 204 → sampleIn b m ≡ sampleAnswer (siteIn b) (monthsIn m)
   unfolding sampleIn monthsLength sampleAnswer checkedFirst

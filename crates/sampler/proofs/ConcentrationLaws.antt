@@ -19,7 +19,7 @@ use Rattle.site.proofs.Tests.{and-r}
 use Rattle.site.specs.declared.Rule.the-variants.{BadConcentration}
 use Rattle.loads.specs.Rounding.{up}
 use Rattle.loads.proofs.Numbers.{up-le, up-enough}
-use Rattle.sampler.specs.Micrograms.{mostMicrograms, measurable, sizeTaken, concentrationOf}
+use Rattle.sampler.specs.Micrograms.{mostMicrograms, notNegative, measurable, sizeTaken, concentrationOf}
 use Rattle.sampler.specs.FloatBits.{exponent, units}
 use Rattle.sampler.specs.MonthRules.{micrograms}
 use Rattle.sampler.specs.declared.floats.Concentration.{Concentration}
@@ -45,6 +45,9 @@ micrograms-least (fin s m e) n h = go (measurable s (m * upPower e) (downPower e
         )
     go false q = let z : _≡_ {A = ℕ} 0 1 = cc in absurd (omega arith)
 
+not-above : (s : Bool) (a c : ℕ) → measurable s a c ≡ true → a ≤ 1000 * c
+not-above s a c h = leb-true a (1000 * c) (and-r (notNegative s a) (leb a (1000 * c)) h)
+
 pub micrograms-le : (x : Float) → micrograms (concentrationOf x) ≤ mostMicrograms
 unfolding concentrationOf
 micrograms-le nan = omega arith
@@ -53,7 +56,7 @@ micrograms-le (fin s m e) = go (measurable s (m * upPower e) (downPower e)) refl
   where
     go : (b : Bool) → measurable s (m * upPower e) (downPower e) ≡ b → micrograms (pick b (Micrograms (up (1000 * (m * upPower e)) (downPower e))) (Refused BadConcentration)) ≤ 1000000
     go true h =
-        let l : m * upPower e ≤ 1000 * downPower e = leb-true (m * upPower e) (1000 * downPower e) (and-r (not s || eqb (m * upPower e) 0) (leb (m * upPower e) (1000 * downPower e)) h) in
+        let l = not-above s (m * upPower e) (downPower e) h in
         up-le (1000 * (m * upPower e)) (downPower e) 1000000 (down-pos e) (omega arith)
     go false h = omega arith
 

@@ -83,17 +83,6 @@ module _ (ms : List Month) where
       go true p false q e = record { before = before; is-14 = cc; at-12 = cc; large = inr (leb-false N (depositionRange .most) q) }
       go false p b q e = record { before = before; is-14 = cc; at-12 = cc; large = inl (leb-false S (depositionRange .most) p) }
 
-  pub year-pair-is : {S' N' : ℕ} → yearOf ms ≡ Pair S' N' → IsPair ms S' N'
-  unfolding yearOf
-  year-pair-is {S'} {N'} e = go (ends 0 ms (pairOf S N))
-    where
-      go : Ends 0 ms (pairOf S N) (monthsChecked 0 ms (pairOf S N)) → IsPair ms S' N'
-      go (at-month rule k f q) =
-          let w : Pair S' N' ≡ Refused rule (0 + k) = sym e ∙ q in
-          let z : _≡_ {A = ℕ} 0 1 = cc in
-          absurd (omega arith)
-      go (behind p q) = paired p (sym e ∙ q)
-
   pub year-refused : {rule : Rule} {at : ℕ} → yearOf ms ≡ Refused rule at → ByMonth ms rule at ⊎ ByYear ms rule at
   unfolding yearOf
   year-refused {rule} {at} e = go (ends 0 ms (pairOf S N))
@@ -106,3 +95,14 @@ module _ (ms : List Month) where
           let zero-plus : 0 + k ≡ k = omega arith in
           inl (rw (same, there ∙ zero-plus) f)
       go (behind p q) = inr (large p (sym e ∙ q))
+
+  pub year-pair-is : {S' N' : ℕ} → yearOf ms ≡ Pair S' N' → IsPair ms S' N'
+  unfolding yearOf
+  year-pair-is {S'} {N'} e = go (ends 0 ms (pairOf S N))
+    where
+      go : Ends 0 ms (pairOf S N) (monthsChecked 0 ms (pairOf S N)) → IsPair ms S' N'
+      go (at-month rule k f q) =
+          let w : Pair S' N' ≡ Refused rule (0 + k) = sym e ∙ q in
+          let z : _≡_ {A = ℕ} 0 1 = cc in
+          absurd (omega arith)
+      go (behind p q) = paired p (sym e ∙ q)

@@ -19,13 +19,17 @@ mostConcentration = 1000
 abbrev pub mostMicrograms : ℕ
 mostMicrograms = 1000 * mostConcentration
 
--- rule 12 for a size of a / c: not negative, which minus zero is not, and not above the most
+-- a sign, true for minus, before a size of a / c: minus zero is not negative
+abbrev pub notNegative : Bool → (a : ℕ) → Bool
+notNegative minus a = not minus || eqb a 0
+
+-- rule 12
 abbrev pub measurable : Bool → (a c : ℕ) → Bool
-measurable negative a c = (not negative || eqb a 0) && leb a (mostConcentration * c)
+measurable minus a c = notNegative minus a && leb a (mostConcentration * c)
 
 -- the µg, 1000 × a / c, up, where rule 12 passes
 abbrev pub sizeTaken : Bool → (a c : ℕ) → Concentration
-sizeTaken negative a c = pick (measurable negative a c) (Micrograms (up (1000 * a) c)) (Refused BadConcentration)
+sizeTaken minus a c = pick (measurable minus a c) (Micrograms (up (1000 * a) c)) (Refused BadConcentration)
 
 unfoldable pub concentrationOf : Float → Concentration
 concentrationOf nan = Refused BadConcentration

@@ -34,7 +34,6 @@ fn judge_pair(site: Site, sulphur: u16, nitrogen: u16) -> SampleAnswer
     ensures { λ r. ⌜ r ≡ keyed sulphur nitrogen (judgementAnswer (withPair site sulphur nitrogen)) ⌝ }
 {
     match judge(with_pair(site, sulphur, nitrogen)) {
-        JudgementAnswer::Refused(rule) => SampleAnswer::Refused { rule, at: 0 },
         JudgementAnswer::Given(judged) => {
             let sampled = Sampled {
                 sulphur,
@@ -43,6 +42,7 @@ fn judge_pair(site: Site, sulphur: u16, nitrogen: u16) -> SampleAnswer
             };
             SampleAnswer::Given(sampled)
         }
+        JudgementAnswer::Refused(rule) => SampleAnswer::Refused { rule, at: 0 },
     }
 }
 

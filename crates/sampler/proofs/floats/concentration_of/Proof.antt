@@ -8,6 +8,14 @@ use borrow.Author.Needs.{needs}
 use Rattle.sampler.proofs.floats.concentration_of.Statement.{statement}
 use Rattle.sampler.proofs.floats.concentration_of.Tie as tie
 
+returns-2 : tie.Need-returns-2
+unfolding ofBits
+returns-2 c = sym (above-most _ (c .if2 .left))
+
+returns-3 : tie.Need-returns-3
+unfolding ofBits
+returns-3 c = sym (below-zero _ (c .if1 .left))
+
 -- what owning an `f32` tells: the format holds it
 held : (c : tie.Start) → T (fits binary32 (c .args .x))
 held c = subst T (sym (c .good .0 .1)) tt
@@ -31,14 +39,6 @@ scaled-bits-requires c κs = exponent-small _ (held (c .before .before)) (in-ran
 
 returns : tie.Need-returns
 returns c = rw (c .scaled-bits .ensures) (sym (taken-bits _ (held (c .before .before .before)) (in-range (c .before))))
-
-returns-2 : tie.Need-returns-2
-unfolding ofBits
-returns-2 c = sym (above-most _ (c .if2 .left))
-
-returns-3 : tie.Need-returns-3
-unfolding ofBits
-returns-3 c = sym (below-zero _ (c .if1 .left))
 
 pub concentration-of-spec : {M : Type 1} → statement M
 concentration-of-spec =

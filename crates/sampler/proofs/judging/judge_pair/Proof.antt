@@ -10,19 +10,19 @@ with-pair-requires c κs = search needs
 judge-requires : tie.Need-judge-requires
 judge-requires c κs = search needs
 
-enum-known-rule : tie.Need-enum-known-rule
-enum-known-rule c = search needs
-
 enum-known-judged : tie.Need-enum-known-judged
 enum-known-judged c = search needs
 
+enum-known-rule : tie.Need-enum-known-rule
+enum-known-rule c = search needs
+
 returns : tie.Need-returns
 unfolding keyed
-returns c = rw (sym (rw (c .before .before .before .before .with-pair .ensures) at (c .before .before .before .judge .ensures .0)) ∙ c .before .rule .given .1)
+returns c = rw (sym (rw (c .before .before .before .before .with-pair .ensures) at (c .before .before .before .judge .ensures .0)) ∙ c .before .judged .given .1)
 
 returns-2 : tie.Need-returns-2
 unfolding keyed
-returns-2 c = rw (sym (rw (c .before .before .before .before .with-pair .ensures) at (c .before .before .before .judge .ensures .0)) ∙ c .before .judged .given .1)
+returns-2 c = rw (sym (rw (c .before .before .before .before .with-pair .ensures) at (c .before .before .before .judge .ensures .0)) ∙ c .before .rule .given .1)
 
 pub judge-pair-spec : {M : Type 1} → statement M
 judge-pair-spec =
@@ -30,7 +30,7 @@ judge-pair-spec =
     (tie.spec
     with-pair-requires
     judge-requires
-    enum-known-rule
     enum-known-judged
+    enum-known-rule
     returns
     returns-2)
