@@ -30,7 +30,7 @@ use Rattle.output.specs.Output.{roomRule, writeAnswer, heldAfter}
 use Rattle.output.specs.Writing.{Wrote}
 use Rattle.output.proofs.WritingLaws.{in-front}
 use Rattle.output.proofs.OutputLaws.{count-is, refused-at-0, room-enough, room-short}
-use Rattle.sampler.specs.MonthBytes.{monthsIn}
+use Rattle.months.specs.MonthBytes.{monthsIn}
 use Rattle.sampler.specs.YearPair.{yearOf}
 use Rattle.sampler.specs.SampleAnswers.{withPair, ByKey, checkedFirst, yearAnswer, sampleAnswer}
 use Rattle.sampler.specs.declared.Month.{Month}

@@ -10,7 +10,7 @@ use Rattle.site.specs.declared.Checked.the-variants.{Passed, Broken}
 use Rattle.output.specs.declared.Written.{Written}
 use Rattle.output.specs.declared.Written.the-variants.{Refused as NotWritten}
 use Rattle.output.specs.Output.{roomRule, writeAnswer, heldAfter}
-use Rattle.sampler.specs.MonthBytes.{monthsIn}
+use Rattle.months.specs.MonthBytes.{monthsIn}
 use Rattle.sampler.specs.YearPair.{yearOf}
 use Rattle.sampler.specs.SampleAnswers.{checkedFirst, yearAnswer}
 use Rattle.sampler.specs.declared.Sampled.{Sampled}

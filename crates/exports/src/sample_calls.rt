@@ -10,10 +10,10 @@ ghost use Rattle.exports.specs.Samples.{sampleIn, sampleWritten, sampleH
 use crate::codes::refusal_code;
 use crate::layout::site_in;
 use crate::value_calls::put_judged;
+use months::months_in;
 use numbers::wide16;
 use sampler::SampleAnswer;
 use sampler::judge_months;
-use sampler::months_in;
 use sampler::refuse_checked;
 use site::Rule;
 

@@ -5,4 +5,3 @@ pub mod MonthLaws
 pub mod YearLaws
 pub mod FirstMonthLaws
 pub mod SampleLaws
-pub mod FloatByteLaws

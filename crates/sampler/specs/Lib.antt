@@ -4,5 +4,4 @@ pub mod MonthRules
 pub mod YearPair
 pub mod FirstMonth
 pub mod SampleAnswers
-pub mod MonthBytes
 pub mod Cases

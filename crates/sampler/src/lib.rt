@@ -1,11 +1,9 @@
 // Twelve months of the rain sampler, taken to the pair S, N of the year, which is judged at a site.
-mod bytes;
 mod floats;
 mod judging;
 mod months;
 mod years;
 
-pub use bytes::months_in;
 use judgement::Judged;
 pub use judging::judge_months;
 pub use judging::refuse_checked;

@@ -1,10 +1,10 @@
 use Prim.Native.Nat.{ℕ}
 use mathlib.Core.Path.{_≡_, sym, _∙_}
 use borrow.Author.Tests.{ne-eqb}
-use Rattle.sampler.specs.MonthBytes.{readingAt}
+use Rattle.months.specs.MonthBytes.{readingAt}
 use borrow.Author.Needs.{needs}
-use Rattle.sampler.proofs.bytes.reading_at.Statement.{statement}
-use Rattle.sampler.proofs.bytes.reading_at.Tie as tie
+use Rattle.months.proofs.bytes.reading_at.Statement.{statement}
+use Rattle.months.proofs.bytes.reading_at.Tie as tie
 
 add-float-at : tie.Need-add-float-at
 add-float-at c = search needs

@@ -1,11 +1,11 @@
 // Twelve months in bytes, with zeros past the end.
 ghost use mathlib.Core.Path.{_≡_};
 ghost use Prim.Native.Nat.{_≤_};
-ghost use Rattle.sampler.specs.MonthBytes.{floatAt, readingAt, monthAt, monthsIn};
-use crate::Month;
-use crate::Reading;
+ghost use Rattle.months.specs.MonthBytes.{floatAt, readingAt, monthAt, monthsIn};
 use numbers::byte;
 use numbers::word_at;
+use sampler::Month;
+use sampler::Reading;
 
 // A NaN cannot be made from its bits, and is a quotient instead.
 fn float_at(b: &[u8], i: usize) -> f32
