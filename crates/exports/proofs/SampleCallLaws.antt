@@ -1,10 +1,9 @@
 -- The answer for a site value and its months, and what the call promises, by the way that it ends.
 use Prim.Native.Nat.{ℕ, _≤_, _<_}
 use mathlib.Core.Path.{_≡_, refl, sym, ap, _∙_, subst}
-use mathlib.Core.Logic.{_⊎_, inl, inr}
-use mathlib.Core.List.{List, _∷_, _++_}
+use mathlib.Core.List.{List, _++_}
 use native.Mathlib.Omega.{arith}
-use lib.ListN.{length, getD, take, drop}
+use lib.ListN.{length, getD, take}
 use borrow.Author.Tests.{eq-eqb, ne-eqb}
 use Rattle.site.specs.Bytes.{tabulate}
 use Rattle.site.specs.Check.{siteRule}
@@ -26,11 +25,11 @@ use Rattle.judgement.specs.Verdicts.{verdict, verdictNumbers}
 use Rattle.judgement.proofs.JudgementAnswers.{judgement-given}
 use Rattle.output.specs.declared.Written.{Written}
 use Rattle.output.specs.declared.Written.the-variants.{Count, Refused as NotWritten}
-use Rattle.output.specs.Output.{roomRule, writeAnswer, heldAfter}
+use Rattle.output.specs.Output.{heldAfter}
 use Rattle.output.specs.Writing.{Wrote}
 use Rattle.output.proofs.WritingLaws.{in-front}
 use Rattle.output.proofs.OutputLaws.{count-is, refused-at-0, room-enough, room-short}
-use Rattle.months.specs.MonthBytes.{monthsIn}
+use Rattle.readings.specs.MonthBytes.{monthsIn}
 use Rattle.sampler.specs.YearPair.{yearOf}
 use Rattle.sampler.specs.SampleAnswers.{withPair, ByKey, checkedFirst, yearAnswer, sampleAnswer}
 use Rattle.sampler.specs.declared.Month.{Month}
@@ -40,7 +39,7 @@ use Rattle.sampler.specs.declared.SampleAnswer.the-variants.{Given, Refused}
 use Rattle.sampler.proofs.SampleLaws.{pair-rule, pair-terms, sample-given, checked-given, checked-at, year-at}
 use Rattle.exports.specs.Codes.{codeBase, writtenCode, Decodes}
 use Rattle.exports.specs.Layout.{siteIn, valueCheck, siteLoadNumbers, markNumber, verdictMarked, judgedNumbers, judgementNumbers}
-use Rattle.exports.specs.Samples.{monthsLength, sampleIn, sampledNumbers, sampleWritten, sampleHeld}
+use Rattle.exports.specs.Samples.{monthsLength, sampleIn, sampledNumbers, sampleWritten, sampleHeld, NumbersByKey}
 use Rattle.exports.proofs.CodeLaws.{decodes, count-below}
 use Rattle.exports.proofs.SiteValueLaws.{wrong-length, as-site, value-passes, length-marked, mark-tells, mark-at}
 
@@ -48,18 +47,18 @@ use Rattle.exports.proofs.SiteValueLaws.{wrong-length, as-site, value-p
 
 module _ (b m : List ℕ) where
   pub months-length : length b ≡ 50 → (length m ≡ 204 → ⊥) → sampleIn b m ≡ checkedFirst (siteRule (siteIn b)) (Refused BadLength 0)
-  unfolding sampleIn monthsLength checkedFirst
+  unfolding sampleIn monthsLength answerIf
   months-length h n = rw (as-site b h, ne-eqb (length m) 204 n) (refused-first (siteRule (siteIn b)))
     where
       refused-first : (c : Checked) → checkedFirst c (checkedFirst (Broken BadLength) (yearAnswer (siteIn b) (yearOf (monthsIn m)))) ≡ checkedFirst c (Refused BadLength 0)
       refused-first c = refl
 
   pub site-length : (length b ≡ 50 → ⊥) → sampleIn b m ≡ Refused BadLength 0
-  unfolding sampleIn checkedFirst
+  unfolding sampleIn answerIf
   site-length h = rw (wrong-length b h)
 
   pub both-whole : length b ≡ 50 → length m ≡ 204 → sampleIn b m ≡ sampleAnswer (siteIn b) (monthsIn m)
-  unfolding sampleIn monthsLength sampleAnswer checkedFirst
+  unfolding sampleIn monthsLength sampleAnswer answerIf
   both-whole h n = rw (as-site b h, eq-eqb (length m) 204 n)
 
   twelve : length (monthsIn m) ≡ 12
@@ -73,7 +72,7 @@ module _ (b m : List ℕ) where
 
   -- what is given is the call's own answer for the site and the months
   whole-given : (p : Sampled) → sampleIn b m ≡ Given p → (siteRule (siteIn b) ≡ Passed) × ByKey (siteIn b) (monthsIn m) p
-  unfolding sampleIn checkedFirst sampleAnswer
+  unfolding sampleIn answerIf sampleAnswer
   whole-given p e =
       let c = checked-given (valueCheck b) _ p e in
       let d = checked-given (monthsLength m) _ p (c .1) in
@@ -125,7 +124,7 @@ module _ (b m old : List ℕ) where
   answer = sampleWritten (sampleIn b m) (length old)
 
   abbrev Keyed : ℕ → List ℕ → Type 0
-  Keyed r new = r ≡ 10 → take 8 (drop 2 new) ≡ judgementNumbers (withPair (siteIn b) (getD new 0 0) (getD new 1 0))
+  Keyed r new = r ≡ 10 → NumbersByKey b m new
 
   abbrev Marked : ℕ → List ℕ → Type 0
   Marked r new = r ≡ 10 → Tells 0 1 (getD new 9 0) (termsOf (siteIn b)) (getD new 0 0) (getD new 1 0)
@@ -173,4 +172,4 @@ module _ (b m old : List ℕ) where
       let front = in-front w (omega (arith, length-sampled p)) .1 in
       let code : 10 ≡ writtenCode answer = rw (e, room) in
       let given = whole-given b m p e in
-      (code, (rw (e, room) front, (decoded code, (λ z. rw front (numbers-by-key (siteIn b) (monthsIn m) p given _), λ z. rw front (mark-by-key (siteIn b) (monthsIn m) p given _)))))
+      (code, (rw (e, room) front, (decoded code, (λ z. rw front (record { pair = given .1 .pair; judgement = numbers-by-key (siteIn b) (monthsIn m) p given _ }), λ z. rw front (mark-by-key (siteIn b) (monthsIn m) p given _)))))

@@ -1,8 +1,9 @@
 -- The call on a site value and the rain sampler's months: the bytes of both, and the ten numbers.
 use Prim.Native.Nat.{ℕ}
-use mathlib.Core.List.{List, _∷_, _++_}
+use mathlib.Core.Path.{_≡_}
+use mathlib.Core.List.{List, _∷_}
 use lib.Dec.{eqb}
-use lib.ListN.{length}
+use lib.ListN.{length, getD, take, drop}
 use Rattle.site.specs.Choice.{pick}
 use Rattle.site.specs.declared.Rule.the-variants.{BadLength}
 use Rattle.site.specs.declared.Checked.{Checked}
@@ -10,13 +11,14 @@ use Rattle.site.specs.declared.Checked.the-variants.{Passed, Broken}
 use Rattle.output.specs.declared.Written.{Written}
 use Rattle.output.specs.declared.Written.the-variants.{Refused as NotWritten}
 use Rattle.output.specs.Output.{roomRule, writeAnswer, heldAfter}
-use Rattle.months.specs.MonthBytes.{monthsIn}
+use Rattle.readings.specs.MonthBytes.{monthsIn}
 use Rattle.sampler.specs.YearPair.{yearOf}
-use Rattle.sampler.specs.SampleAnswers.{checkedFirst, yearAnswer}
+use Rattle.sampler.specs.SampleAnswers.{withPair, checkedFirst, yearAnswer}
 use Rattle.sampler.specs.declared.Sampled.{Sampled}
 use Rattle.sampler.specs.declared.SampleAnswer.{SampleAnswer}
 use Rattle.sampler.specs.declared.SampleAnswer.the-variants.{Given, Refused}
-use Rattle.exports.specs.Layout.{siteIn, valueCheck, judgedNumbers}
+use Rattle.sampler.specs.declared.years.Year.the-variants.{Pair}
+use Rattle.exports.specs.Layout.{siteIn, valueCheck, judgedNumbers, judgementNumbers}
 
 -- rule 7 for the length of the months
 unfoldable pub monthsLength : List ℕ → Checked
@@ -38,3 +40,8 @@ sampleWritten (Given p) room = writeAnswer (roomRule 10 room) 10
 unfoldable pub sampleHeld : SampleAnswer → (old : List ℕ) → List ℕ
 sampleHeld (Refused rule at) old = old
 sampleHeld (Given p) old = heldAfter (roomRule 10 (length old)) (sampledNumbers p) old
+
+-- the ten numbers: the pair of the months, and what `forest_judge` gives for the site with this pair put into its field 0F
+pub record NumbersByKey (site months numbers : List ℕ) : Type 0 where
+  pub pair : yearOf (monthsIn months) ≡ Pair (getD numbers 0 0) (getD numbers 1 0)
+  pub judgement : take 8 (drop 2 numbers) ≡ judgementNumbers (withPair (siteIn site) (getD numbers 0 0) (getD numbers 1 0))

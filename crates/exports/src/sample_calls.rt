@@ -1,17 +1,16 @@
 // The rain sampler's months at a site value.
 ghost use mathlib.Core.Path.{_≡_};
-ghost use lib.ListN.{length, getD, take, drop};
+ghost use lib.ListN.{length, getD};
 ghost use Rattle.loads.specs.SiteTerms.{termsOf};
 ghost use Rattle.judgement.specs.Balance.{Tells};
-ghost use Rattle.sampler.specs.SampleAnswers.{withPair};
 ghost use Rattle.exports.specs.Codes.{writtenCode, Decodes};
-ghost use Rattle.exports.specs.Layout.{siteIn, judgementNumbers};
-ghost use Rattle.exports.specs.Samples.{sampleIn, sampleWritten, sampleHeld};
+ghost use Rattle.exports.specs.Layout.{siteIn};
+ghost use Rattle.exports.specs.Samples.{sampleIn, sampleWritten, sampleHeld, NumbersByKey};
 use crate::codes::refusal_code;
 use crate::layout::site_in;
 use crate::value_calls::put_judged;
-use months::months_in;
 use numbers::wide16;
+use readings::months_in;
 use sampler::SampleAnswer;
 use sampler::judge_months;
 use sampler::refuse_checked;
@@ -38,7 +37,7 @@ pub extern "C" fn forest_sample(site: &[u8], months: &[u8], out: &mut [u64]) -> 
     ensures answer { λ r. ⌜ r ≡ writtenCode (sampleWritten (sampleIn (now (site .entry)) (now (months .entry))) (length (now (out .entry)))) ⌝ }
     ensures buffer { λ _. ⌜ now (out .exit) ≡ sampleHeld (sampleIn (now (site .entry)) (now (months .entry))) (now (out .entry)) ⌝ }
     ensures decoded { λ r. ⌜ Decodes (sampleWritten (sampleIn (now (site .entry)) (now (months .entry))) (length (now (out .entry)))) r ⌝ }
-    ensures by_key { λ r. ⌜ (r ≡ 10 → take 8 (drop 2 (now (out .exit))) ≡ judgementNumbers (withPair (siteIn (now (site .entry))) (getD (now (out .exit)) 0 0) (getD (now (out .exit)) 1 0))) ⌝ }
+    ensures by_key { λ r. ⌜ (r ≡ 10 → NumbersByKey (now (site .entry)) (now (months .entry)) (now (out .exit))) ⌝ }
     ensures demand3 { λ r. ⌜ (r ≡ 10 → Tells 0 1 (getD (now (out .exit)) 9 0) (termsOf (siteIn (now (site .entry)))) (getD (now (out .exit)) 0 0) (getD (now (out .exit)) 1 0)) ⌝ }
 {
     match sample_in(site, months) {

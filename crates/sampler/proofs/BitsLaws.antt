@@ -1,5 +1,5 @@
 -- What a float's bits stand for: `units` of them, in units of 2 ^ -149.
-use Prim.Native.Nat.{ℕ, zero, suc, _+_, _*_, _/_, _%_, _^_, _≤_, _<_, _-_}
+use Prim.Native.Nat.{ℕ, zero, suc, _+_, _*_, _%_, _^_, _≤_, _<_, _-_}
 use mathlib.Core.Path.{_≡_, sym, ap, _∙_, subst}
 use mathlib.Core.Bool.{Bool, true, false, cond}
 use native.Mathlib.Nat.{mul-one, mul-assoc, mul-le-mul-right, mul-le-mul-left, le-trans}
@@ -52,7 +52,7 @@ units-big (suc k) t h =
     let p : 149 ≤ k = omega arith in
     le-trans (mul-le-mul-right (2 ^ 149) l) (mul-le-mul-left (8388608 + t) (pow-mono p))
 
--- a field above 0: the digits with their leading one, over the power of two that is left
+-- an exponent above 0: the fraction with its hidden bit, over the power of two that is left
 pub up-units : (k t : ℕ) → 0 < k → k ≤ 149 → up (1000 * (8388608 + t)) (2 ^ (150 - k)) ≡ up (1000 * unitsBy k t) (2 ^ 149)
 up-units zero t p h = absurd (omega arith)
 up-units (suc k) t p h =

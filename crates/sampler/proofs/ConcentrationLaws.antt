@@ -1,7 +1,7 @@
 -- A float's µg: what the definition means, by the two tests of the code, and by the float's bits.
 use Prim.Native.Nat.{ℕ, _+_, _*_, _%_, _^_, _≤_, _<_}
 use mathlib.Core.Path.{_≡_, refl, sym, ap, _∙_, subst}
-use mathlib.Core.Logic.{_⊎_, inl, inr, ⊎-elim}
+use mathlib.Core.Logic.{_⊎_, inl, inr}
 use mathlib.Core.Bool.{Bool, true, false, not, _&&_, _||_, true≢false}
 use native.Mathlib.Nat.{mul-assoc, mul-right-comm, mul-le-mul-right, le-trans, le-of-eq, le-of-mul-le-mul-right, eq-or-lt-of-le}
 use native.Mathlib.Omega.{arith}
@@ -19,10 +19,9 @@ use Rattle.site.proofs.Tests.{and-r}
 use Rattle.site.specs.declared.Rule.the-variants.{BadConcentration}
 use Rattle.loads.specs.Rounding.{up}
 use Rattle.loads.proofs.Numbers.{up-le, up-enough}
-use Rattle.sampler.specs.Micrograms.{mostMicrograms, notNegative, measurable, sizeTaken, concentrationOf}
+use Rattle.sampler.specs.Micrograms.{mostMicrograms, notNegative, measurable, concentrationOf}
 use Rattle.sampler.specs.FloatBits.{exponent, units}
 use Rattle.sampler.specs.MonthRules.{micrograms}
-use Rattle.sampler.specs.declared.floats.Concentration.{Concentration}
 use Rattle.sampler.specs.declared.floats.Concentration.the-variants.{Micrograms, Refused}
 use Rattle.sampler.proofs.QuotientLaws.{up-same}
 use Rattle.sampler.proofs.BitsLaws.{value-of-bits, units-big}

@@ -1,12 +1,12 @@
 -- The walk over the months gives the first refusal, and what stands behind them where there is none.
-use Prim.Native.Nat.{ℕ, zero, suc, _+_, _<_, _≤_}
+use Prim.Native.Nat.{ℕ, zero, suc, _+_}
 use mathlib.Core.Path.{_≡_, refl, sym, _∙_}
 use mathlib.Core.Bool.{Bool, true, false, _&&_}
 use mathlib.Core.Logic.{_⊎_, inl, inr}
 use mathlib.Core.List.{List, [], _∷_}
 use native.Mathlib.Omega.{arith}
 use lib.Dec.{leb}
-use lib.ListN.{length, getD}
+use lib.ListN.{length}
 use borrow.Author.Tests.{leb-true, leb-false}
 use Rattle.site.specs.Choice.{pick}
 use Rattle.site.specs.Ranges.{depositionRange}
@@ -16,7 +16,7 @@ use Rattle.site.specs.declared.Checked.{Checked}
 use Rattle.site.specs.declared.Checked.the-variants.{Passed, Broken}
 use Rattle.loads.specs.Rounding.{up}
 use Rattle.sampler.specs.MonthRules.{monthRule, sulphurOf, nitrogenOf}
-use Rattle.sampler.specs.YearPair.{total, pairOf, dividedPair, unlessAt, monthsChecked, yearOf}
+use Rattle.sampler.specs.YearPair.{total, pairOf, unlessAt, monthsChecked, yearOf}
 use Rattle.sampler.specs.FirstMonth.{Pass, ByMonth, ByYear, IsPair}
 use Rattle.sampler.specs.declared.Month.{Month}
 use Rattle.sampler.specs.declared.years.Year.{Year}
@@ -58,6 +58,14 @@ module _ (ms : List Month) where
   N = up (total nitrogenOf ms) 1400
 
   -- behind the months
+  large : Pass ms (length ms) → {rule : Rule} {at : ℕ} → Refused rule at ≡ pairOf S N → ByYear ms rule at
+  large before {rule} {at} = go (leb S (depositionRange .most)) refl (leb N (depositionRange .most)) refl
+    where
+      go : (a : Bool) → leb S (depositionRange .most) ≡ a → (b : Bool) → leb N (depositionRange .most) ≡ b → Refused rule at ≡ pick (a && b) (Pair S N) (Refused PairTooLarge 12) → ByYear ms rule at
+      go true p true q e = let z : _≡_ {A = ℕ} 0 1 = cc in absurd (omega arith)
+      go true p false q e = record { before = before; is-14 = cc; at-12 = cc; large = inr (leb-false N (depositionRange .most) q) }
+      go false p b q e = record { before = before; is-14 = cc; at-12 = cc; large = inl (leb-false S (depositionRange .most) p) }
+
   paired : Pass ms (length ms) → {S' N' : ℕ} → Pair S' N' ≡ pairOf S N → IsPair ms S' N'
   paired before {S'} {N'} = go (leb S (depositionRange .most)) refl (leb N (depositionRange .most)) refl
     where
@@ -74,14 +82,6 @@ module _ (ms : List Month) where
           }
       go true p false q e = let z : _≡_ {A = ℕ} 0 1 = cc in absurd (omega arith)
       go false p b q e = let z : _≡_ {A = ℕ} 0 1 = cc in absurd (omega arith)
-
-  large : Pass ms (length ms) → {rule : Rule} {at : ℕ} → Refused rule at ≡ pairOf S N → ByYear ms rule at
-  large before {rule} {at} = go (leb S (depositionRange .most)) refl (leb N (depositionRange .most)) refl
-    where
-      go : (a : Bool) → leb S (depositionRange .most) ≡ a → (b : Bool) → leb N (depositionRange .most) ≡ b → Refused rule at ≡ pick (a && b) (Pair S N) (Refused PairTooLarge 12) → ByYear ms rule at
-      go true p true q e = let z : _≡_ {A = ℕ} 0 1 = cc in absurd (omega arith)
-      go true p false q e = record { before = before; is-14 = cc; at-12 = cc; large = inr (leb-false N (depositionRange .most) q) }
-      go false p b q e = record { before = before; is-14 = cc; at-12 = cc; large = inl (leb-false S (depositionRange .most) p) }
 
   pub year-refused : {rule : Rule} {at : ℕ} → yearOf ms ≡ Refused rule at → ByMonth ms rule at ⊎ ByYear ms rule at
   unfolding yearOf

@@ -6,7 +6,6 @@ use mathlib.Core.Logic.{_⊎_, inl, inr}
 use lib.ListN.{length}
 use native.Mathlib.Omega.{arith}
 use Rattle.site.specs.Check.{fieldsRule, siteRule}
-use Rattle.site.specs.OneSite.{OneSite}
 use Rattle.site.specs.ByCheck.{answerIf}
 use Rattle.site.specs.Refusal.{valuesIf}
 use Rattle.site.specs.Values.{itemCount, countRule, valueRule}
@@ -16,7 +15,7 @@ use Rattle.site.specs.declared.Checked.{Checked}
 use Rattle.site.specs.declared.Checked.the-variants.{Passed, Broken}
 use Rattle.loads.specs.SiteTerms.{termsOf}
 use Rattle.loads.proofs.OneSiteLaws.{terms-same}
-use Rattle.judgement.specs.Answers.{judgedOf, judgementAnswer, judgedValues, pairValues}
+use Rattle.judgement.specs.Answers.{judgedOf, judgementAnswer, pairValues}
 use Rattle.judgement.specs.Balance.{Tells}
 use Rattle.judgement.specs.Verdicts.{verdictWord, within, over}
 use Rattle.judgement.specs.declared.JudgementAnswer.{JudgementAnswer}
@@ -62,7 +61,7 @@ module _ (s : Site) (S N : ℕ) where
 
   -- the judgement's own check is that of the site
   pub keyed-checked : checkedFirst (siteRule s) keyedAnswer ≡ keyedAnswer
-  unfolding checkedFirst keyed judgementAnswer answerIf
+  unfolding answerIf keyed judgementAnswer
   keyed-checked = go (siteRule s) pair-rule
     where
       go : (c : Checked) → siteRule (withPair s S N) ≡ c → checkedFirst c keyedAnswer ≡ keyedAnswer
@@ -94,7 +93,7 @@ not-given rule at p e = let z : _≡_ {A = ℕ} 0 1 = cc in omega arith
 module _ (s : Site) (ms : List Month) where
   -- what an answer that is given says
   pub sample-given : (p : Sampled) → sampleAnswer s ms ≡ Given p → (siteRule s ≡ Passed) × ByKey s ms p
-  unfolding sampleAnswer checkedFirst yearAnswer
+  unfolding sampleAnswer answerIf yearAnswer
   sample-given p = go (siteRule s) refl (yearOf ms) refl
     where
       go : (c : Checked) → siteRule s ≡ c → (y : Year) → yearOf ms ≡ y → checkedFirst c (yearAnswer s y) ≡ Given p → (siteRule s ≡ Passed) × ByKey s ms p
@@ -112,7 +111,7 @@ module _ (s : Site) (ms : List Month) where
       rw j (pair-tells s (p .sulphur) (p .nitrogen) (g .0))
 
   answer-values : sampleValues (sampleAnswer s ms) ≡ valuesIf (siteRule s) (yearValues (termsOf s) (yearOf ms))
-  unfolding sampleAnswer checkedFirst yearAnswer valuesIf yearValues sampleValues
+  unfolding sampleAnswer answerIf yearAnswer valuesIf yearValues sampleValues
   answer-values = go (siteRule s) refl (yearOf ms)
     where
       go : (c : Checked) → siteRule s ≡ c → (y : Year) → sampleValues (checkedFirst c (yearAnswer s y)) ≡ valuesIf c (yearValues (termsOf s) y)
@@ -131,12 +130,12 @@ module _ (s : Site) (ms : List Month) where
 -- ---- what an answer says of the check before it, and where it is refused
 
 pub checked-given : (c : Checked) (a : SampleAnswer) (p : Sampled) → checkedFirst c a ≡ Given p → (c ≡ Passed) × (a ≡ Given p)
-unfolding checkedFirst
+unfolding answerIf
 checked-given Passed a p e = (refl, e)
 checked-given (Broken r) a p e = absurd (not-given r 0 p e)
 
 pub checked-at : (c : Checked) (a : SampleAnswer) {most : ℕ} → ((rule : Rule) (at : ℕ) → a ≡ Refused rule at → at ≤ most) → (rule : Rule) (at : ℕ) → checkedFirst c a ≡ Refused rule at → at ≤ most
-unfolding checkedFirst
+unfolding answerIf
 checked-at Passed a h rule at e = h rule at e
 checked-at (Broken r) a h rule at e = let z : at ≡ 0 = cc in omega arith
 

@@ -1,5 +1,5 @@
--- Floats by their bits, and years: one table each, and one computed proof that the definitions give the numbers beside them.
-use Prim.Native.Nat.{ℕ, zero, suc}
+-- Floats by their bits, and years: a table of each, and a computed proof of each that the definitions give the numbers beside them.
+use Prim.Native.Nat.{ℕ}
 use mathlib.Core.Bool.{false}
 use mathlib.Core.Path.{_≡_, refl}
 use mathlib.Core.List.{List, [], _∷_, _++_, map}
@@ -9,7 +9,7 @@ use lib.Ieee.{Float, nan, fin, binary32, ofBits}
 use Rattle.site.specs.Refusal.{ruleNumber, andThen}
 use Rattle.loads.specs.Rounding.{up}
 use Rattle.sampler.specs.Micrograms.{concentrationOf}
-use Rattle.sampler.specs.MonthRules.{readingOf, monthRule, sulphurOf, nitrogenOf}
+use Rattle.sampler.specs.MonthRules.{monthRule, sulphurOf, nitrogenOf}
 use Rattle.sampler.specs.YearPair.{yearOf}
 use Rattle.sampler.specs.declared.Reading.{Reading}
 use Rattle.sampler.specs.declared.Reading.the-variants.{Measured, Below, Missing}
@@ -55,13 +55,6 @@ floats =
 floats-agree : map (λ (c : FloatCase). givenBy (concentrationOf (ofBits binary32 (c .bits)))) floats ≡ map (λ (c : FloatCase). c .given) floats
 unfolding floats concentrationOf ofBits up
 floats-agree = refl
-
--- a value below the limit counts as the limit, whatever its bits; 13 for a missing one
-limit-counts : (bits : ℕ) → readingOf (Below (ofBits binary32 bits)) ≡ readingOf (Measured (ofBits binary32 bits))
-limit-counts bits = refl
-
-missing-is : givenBy (readingOf Missing) ≡ refused 13
-missing-is = refl
 
 -- ---- years: S and N, or number and offset
 

@@ -1,8 +1,8 @@
--- The bits of a float of 32 bits without the sign: an exponent's field and 23 digits. Words of the contracts of private functions.
+-- The bits of a float of 32 bits without its sign: an exponent of 8 bits and a fraction of 23. Words of contracts of private functions and of laws.
 use Prim.Native.Nat.{ℕ, zero, suc, _+_, _*_, _/_, _%_, _^_}
 
--- what they stand for, in units of 2 ^ -149
-abbrev pub unitsBy : (exponent digits : ℕ) → ℕ
+-- what they stand for, in units of 2 ^ -149; an exponent above 0 has a hidden bit before the fraction
+abbrev pub unitsBy : (exponent fraction : ℕ) → ℕ
 unitsBy zero t = t
 unitsBy (suc k) t = (8388608 + t) * 2 ^ k
 

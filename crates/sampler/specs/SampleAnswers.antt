@@ -3,10 +3,10 @@ use Prim.Native.Nat.{ℕ}
 use mathlib.Core.Path.{_≡_}
 use mathlib.Core.List.{List, [], _∷_}
 use Rattle.site.specs.Check.{siteRule}
+use Rattle.site.specs.ByCheck.{answerIf}
 use Rattle.site.specs.Refusal.{ruleNumber}
 use Rattle.site.specs.declared.Site.{Site}
 use Rattle.site.specs.declared.Checked.{Checked}
-use Rattle.site.specs.declared.Checked.the-variants.{Passed, Broken}
 use Rattle.loads.specs.Terms.{Terms}
 use Rattle.judgement.specs.Answers.{judgementAnswer, judgedValues, pairValues}
 use Rattle.judgement.specs.declared.JudgementAnswer.{JudgementAnswer}
@@ -54,9 +54,8 @@ yearAnswer s (Pair S N) = keyed S N (judgementAnswer (withPair s S N))
 yearAnswer s (YearRefused rule at) = Refused rule at
 
 -- a check of the site before another answer
-unfoldable pub checkedFirst : Checked → SampleAnswer → SampleAnswer
-checkedFirst Passed a = a
-checkedFirst (Broken rule) a = Refused rule 0
+abbrev pub checkedFirst : Checked → SampleAnswer → SampleAnswer
+checkedFirst c a = answerIf (λ (x : SampleAnswer). x) (λ rule. Refused rule 0) c a
 
 unfoldable pub sampleAnswer : Site → List Month → SampleAnswer
 sampleAnswer s ms = checkedFirst (siteRule s) (yearAnswer s (yearOf ms))

@@ -26,17 +26,17 @@ fn scaled(q: u64, s: u64) -> u64
     ((1000 * q - 1) >> s) + 1
 }
 
-// The number that the bits stand for without their sign, × 1000, up. An exponent's field of 0 has no hidden digit.
+// The number that the bits stand for without their sign, × 1000, up. An exponent of 0 has no hidden bit.
 fn scaled_bits(b: u64) -> u64
     requires { ⌜ exponent b ≤ 149 ⌝ }
     ensures { λ r. ⌜ r ≡ up (1000 * units b) (2 ^ 149) ⌝ }
 {
     let exponent = b % 0x8000_0000 / 0x80_0000;
-    let digits = b % 0x80_0000;
+    let fraction = b % 0x80_0000;
     if exponent == 0 {
-        return scaled(digits, 149);
+        return scaled(fraction, 149);
     }
-    scaled(0x80_0000 + digits, 150 - exponent)
+    scaled(0x80_0000 + fraction, 150 - exponent)
 }
 
 // The first test is false at a NaN and true at minus zero.

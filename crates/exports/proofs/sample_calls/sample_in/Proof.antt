@@ -1,5 +1,4 @@
-use mathlib.Core.Path.{_≡_, sym, _∙_}
-use denote.Ref.{now}
+use mathlib.Core.Path.{sym, _∙_}
 use Rattle.exports.proofs.SampleCallLaws.{site-length, months-length, both-whole}
 use borrow.Author.Needs.{needs}
 use Rattle.exports.proofs.sample_calls.sample_in.Statement.{statement}

@@ -1,5 +1,5 @@
 use Prim.Native.Nat.{_<_}
-use mathlib.Core.Path.{_≡_, sym, subst}
+use mathlib.Core.Path.{sym, subst}
 use lib.Dec.{T}
 use lib.Ieee.{binary32, fits, ofBits, toBits}
 use lib.Ieee.Bits.{toBits-lt}
@@ -8,6 +8,7 @@ use borrow.Author.Needs.{needs}
 use Rattle.sampler.proofs.floats.concentration_of.Statement.{statement}
 use Rattle.sampler.proofs.floats.concentration_of.Tie as tie
 
+-- refused: above 1000; below zero or not a number
 returns-2 : tie.Need-returns-2
 unfolding ofBits
 returns-2 c = sym (above-most _ (c .if2 .left))

@@ -1,10 +1,9 @@
 use borrow.Author.Needs.{needs}
-use Prim.Native.Nat.{ℕ, _+_, _*_, _-_, _/_, _^_, _≤_, _<_}
-use mathlib.Core.Path.{_≡_, refl, sym, ap, _∙_}
+use Prim.Native.Nat.{_*_, _-_, _^_, _≤_}
+use mathlib.Core.Path.{_≡_, sym}
 use native.Mathlib.Nat.{le-trans}
 use native.Mathlib.Omega.{arith}
 use lib.Pow.{pow-pos, pow-mono, shr-le}
-use Rattle.loads.specs.Rounding.{up}
 use Rattle.sampler.proofs.QuotientLaws.{up-zero, up-one, up-suc}
 use Rattle.sampler.proofs.floats.scaled.Statement.{statement}
 use Rattle.sampler.proofs.floats.scaled.Tie as tie

@@ -1,8 +1,8 @@
 use borrow.Author.Needs.{needs}
-use Prim.Native.Nat.{ℕ, _+_, _*_, _-_, _/_, _%_, _^_, _≤_, _<_}
-use mathlib.Core.Path.{_≡_, refl, sym, ap, _∙_}
+use Prim.Native.Nat.{_%_}
+use mathlib.Core.Path.{_≡_, _∙_}
 use native.Mathlib.Omega.{arith}
-use Rattle.sampler.specs.FloatBits.{exponent, units}
+use Rattle.sampler.specs.FloatBits.{exponent}
 use Rattle.sampler.proofs.BitsLaws.{up-units}
 use Rattle.sampler.proofs.floats.scaled_bits.Statement.{statement}
 use Rattle.sampler.proofs.floats.scaled_bits.Tie as tie

@@ -1,4 +1,4 @@
-use mathlib.Core.Path.{_≡_, sym, _∙_}
+use mathlib.Core.Path.{sym, _∙_}
 use Rattle.sampler.specs.SampleAnswers.{yearAnswer, sampleAnswer}
 use Rattle.sampler.proofs.SampleLaws.{keyed-checked, sample-promise}
 use borrow.Author.Needs.{needs}

@@ -1,5 +1,5 @@
 use mathlib.Core.Path.{sym, _∙_}
-use Rattle.sampler.specs.SampleAnswers.{checkedFirst}
+use Rattle.site.specs.ByCheck.{answerIf}
 use borrow.Author.Needs.{needs}
 use Rattle.sampler.proofs.judging.refuse_checked.Statement.{statement}
 use Rattle.sampler.proofs.judging.refuse_checked.Tie as tie
@@ -14,11 +14,11 @@ enum-told : tie.Need-enum-told
 enum-told c = search needs
 
 returns : tie.Need-returns
-unfolding checkedFirst
+unfolding answerIf
 returns c = rw (sym (c .before .before .before .check-site .ensures .0) ∙ c .before .broken .given .1)
 
 returns-2 : tie.Need-returns-2
-unfolding checkedFirst
+unfolding answerIf
 returns-2 c = rw (sym (c .before .before .check-site .ensures .0) ∙ c .enum-told .given .1)
 
 pub refuse-checked-spec : {M : Type 1} → statement M

@@ -1,10 +1,9 @@
-use mathlib.Core.Path.{_≡_, sym, _∙_}
+use mathlib.Core.Path.{sym, _∙_}
 use borrow.Author.Needs.{needs}
-use native.Mathlib.Omega.{arith}
-use Rattle.months.specs.MonthBytes.{floatAt}
-use Rattle.months.proofs.FloatByteLaws.{zero-by-zero, not-a-number, a-number}
-use Rattle.months.proofs.bytes.float_at.Statement.{statement}
-use Rattle.months.proofs.bytes.float_at.Tie as tie
+use Rattle.readings.specs.MonthBytes.{floatAt}
+use Rattle.readings.proofs.FloatByteLaws.{zero-by-zero, not-a-number, a-number}
+use Rattle.readings.proofs.bytes.float_at.Statement.{statement}
+use Rattle.readings.proofs.bytes.float_at.Tie as tie
 
 word-at-requires : tie.Need-word-at-requires
 word-at-requires c κs = search needs

@@ -1,7 +1,7 @@
-use Rattle.months.specs.MonthBytes.{monthAt}
+use Rattle.readings.specs.MonthBytes.{monthAt}
 use borrow.Author.Needs.{needs}
-use Rattle.months.proofs.bytes.month_at.Statement.{statement}
-use Rattle.months.proofs.bytes.month_at.Tie as tie
+use Rattle.readings.proofs.bytes.month_at.Statement.{statement}
+use Rattle.readings.proofs.bytes.month_at.Tie as tie
 
 word-at-requires : tie.Need-word-at-requires
 word-at-requires c κs = search needs

@@ -1,7 +1,7 @@
 // Twelve months in bytes, with zeros past the end.
 ghost use mathlib.Core.Path.{_≡_};
 ghost use Prim.Native.Nat.{_≤_};
-ghost use Rattle.months.specs.MonthBytes.{floatAt, readingAt, monthAt, monthsIn};
+ghost use Rattle.readings.specs.MonthBytes.{floatAt, readingAt, monthAt, monthsIn};
 use numbers::byte;
 use numbers::word_at;
 use sampler::Month;

@@ -1,5 +1,5 @@
 -- The bits that are not a number, by the code's one test of them.
-use Prim.Native.Nat.{ℕ, _+_, _*_, _/_, _%_, _≤_, _<_}
+use Prim.Native.Nat.{ℕ, _%_, _≤_, _<_}
 use mathlib.Core.Path.{_≡_, refl}
 use mathlib.Core.Bool.{not, _&&_}
 use native.Mathlib.Omega.{arith}

@@ -1,10 +1,9 @@
-use Prim.Native.Nat.{ℕ}
-use mathlib.Core.Path.{_≡_, sym, _∙_}
+use mathlib.Core.Path.{sym, _∙_}
 use borrow.Author.Tests.{ne-eqb}
-use Rattle.months.specs.MonthBytes.{readingAt}
+use Rattle.readings.specs.MonthBytes.{readingAt}
 use borrow.Author.Needs.{needs}
-use Rattle.months.proofs.bytes.reading_at.Statement.{statement}
-use Rattle.months.proofs.bytes.reading_at.Tie as tie
+use Rattle.readings.proofs.bytes.reading_at.Statement.{statement}
+use Rattle.readings.proofs.bytes.reading_at.Tie as tie
 
 add-float-at : tie.Need-add-float-at
 add-float-at c = search needs

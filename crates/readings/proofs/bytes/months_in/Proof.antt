@@ -1,7 +1,7 @@
 use Rattle.site.specs.Bytes.{tabulate}
 use borrow.Author.Needs.{needs}
-use Rattle.months.proofs.bytes.months_in.Statement.{statement}
-use Rattle.months.proofs.bytes.months_in.Tie as tie
+use Rattle.readings.proofs.bytes.months_in.Statement.{statement}
+use Rattle.readings.proofs.bytes.months_in.Tie as tie
 
 month-at-requires : tie.Need-month-at-requires
 month-at-requires c κs = search needs
