@@ -18,7 +18,7 @@
  *    9  species not rising                                                             the field
  *   10  shares not 100                                                                 the field
  *   11  lent buffer shorter than the output                                            0
- *   12  concentration not a number, infinite, negative or above 1000                   the month, from 0
+ *   12  concentration or limit not a number, infinite, negative or above 1000          the month, from 0
  *   13  reading missing                                                                the month, from 0
  *   14  S or N of the year above 65,535                                                12
  *
@@ -57,8 +57,8 @@
  *   - `uint64_t *out` is aligned for uint64_t;
  *   - input and output do not overlap;
  *   - the stack given below, in whole KiB. No proof bounds it: it is measured (docs/src/compare/stack) on the library of
- *     `rt staticlib exports`, which is compiled for x86-64 at -O3. Of the C library memcpy alone is called; where it is
- *     bound at its first call, that call takes some 3 KiB more.
+ *     `rt staticlib exports`, which is compiled for x86-64 at -O3. Of the C library memcpy and memset alone are called;
+ *     where one is bound at its first call, that call takes some 3 KiB more.
  *
  * Calls keep no state. They may be made from several threads at once if none writes what another reads or writes.
  */
@@ -100,10 +100,10 @@ uint64_t forest_loads(const uint8_t *site, size_t site_len, uint64_t *out, size_
 uint64_t forest_judge(const uint8_t *site, size_t site_len, uint64_t *out, size_t out_len);
 
 /* The pair of a year from the rain sampler, judged at the site in place of its own. Ten numbers: S, N, then the eight of
- * forest_judge for the site with this pair. Each reading counts in whole µg per litre, up, a value below the limit as the
- * limit; S is the sum of mm times µg, divided by 1600, up, N that of both forms of nitrogen, divided by 1400, up. The site
- * is checked first, then the length of the months, then each month in order: rain (8), sulphate, nitrate, ammonium (12 or
- * 13, also in a month without rain). Stack: 2 KiB. */
+ * forest_judge for the site with this pair. Each reading counts in whole micrograms per litre, up, a value below the limit
+ * as the limit. S is the sum of mm times micrograms, divided by 1600, up; N that of both forms of nitrogen, divided by 1400,
+ * up. The site is checked first, then the length of the months, then each month in order: rain (8), sulphate, nitrate,
+ * ammonium (12 or 13, also in a month without rain). Stack: 2 KiB. */
 uint64_t forest_sample(const uint8_t *site, size_t site_len, const uint8_t *months, size_t months_len, uint64_t *out,
                        size_t out_len);
 

@@ -23,7 +23,7 @@ static const uint8_t site[SITE] = {
     NAME, 8, 4, 100, 0, 200, 5, 0x0B, 0xB8, STAND, 4, 0x01, 0xF4, 85,
     0x13, 0x88, 0x4E, 0x20, 0x27, 0x10, 0x13, 0x88, 0x03, 0xE8, 0xFF, 0xFF, 0xFF, 0xFF,
 };
-static const uint8_t bad_site[SITE], months[MONTHS];
+static const uint8_t bad_site[SITE], months[MONTHS], bad_months[MONTHS] = {0xFF};
 static uint8_t file[FULL + 1], text[TEXT];
 static uint64_t numbers[10];
 
@@ -46,7 +46,11 @@ static void rewrite(void) { forest_rewrite(in.bytes, in.length, bytes_out(), in.
 static void check(void) { forest_check(in.bytes, in.length); }
 static void loads(void) { forest_loads(in.bytes, in.length, numbers_out(), in.room); }
 static void judge(void) { forest_judge(in.bytes, in.length, numbers_out(), in.room); }
-static void sample(void) { forest_sample(in.bytes, in.length, months, MONTHS, numbers_out(), in.room); }
+static void sample(void) {
+    forest_sample(in.bytes, in.length, months, MONTHS, numbers_out(), in.room);
+    forest_sample(in.bytes, in.length, bad_months, MONTHS, numbers_out(), in.room);
+    forest_sample(in.bytes, in.length, NULL, 0, numbers_out(), in.room);
+}
 
 /* How many bytes of a fresh stack a call has touched. */
 static size_t stack_of(void (*call)(void)) {

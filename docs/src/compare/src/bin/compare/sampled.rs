@@ -27,6 +27,11 @@ pub struct Sampled {
     above_most: u64,
     bad_limit: u64,
     missing_at_0_mm: u64,
+    case_above_2: u64,
+    /// Two faults in one month: 8 before 12 or 13, 12 before 13, 13 before 12.
+    rain_and_reading: u64,
+    bad_then_missing: u64,
+    missing_then_bad: u64,
     /// 14, by what alone passes 65,535.
     too_much_sulphur: u64,
     too_much_nitrogen: u64,
@@ -37,6 +42,11 @@ pub struct Sampled {
     most: u64,
     greatest_sulphur: u64,
     greatest_nitrogen: u64,
+    /// A sum that is divided without a rest, and one that leaves a rest of 1.
+    whole_sulphur: u64,
+    whole_nitrogen: u64,
+    rest_sulphur: u64,
+    rest_nitrogen: u64,
     /// Another mark than that of the pair with which the site came.
     within_for_over: u64,
     over_for_within: u64,
@@ -46,7 +56,8 @@ impl Sampled {
     /// A site value of 50 bytes with its months: the result in a buffer with room, and the numbers there.
     pub fn count(&mut self, site: &Site, months: &[u8], result: u64, numbers: &[u64; 10]) {
         let (rule, offset) = (result >> 32, result as u32 as usize);
-        let months = forest::months_from_bytes(months);
+        let bytes = months;
+        let months = forest::months_from_bytes(bytes);
         match (forest::judge(site), months) {
             (Err(_), Ok(months)) if forest::year(&months).is_ok() => {}
             (Err(_), _) => self.site_first += 1,
@@ -57,7 +68,12 @@ impl Sampled {
                 self.within_for_over += u64::from(is && !was);
                 self.over_for_within += u64::from(was && !is);
             }
-            (Ok(_), Ok(months)) if offset < 12 => self.refused(&months, rule, offset),
+            (Ok(_), Ok(months)) if offset < 12 => {
+                self.refused(&months, rule, offset);
+                let cases = [2, 7, 12].map(|at| bytes[17 * offset + at]);
+                let first = cases.into_iter().find(|&case| case > 1);
+                self.case_above_2 += u64::from(rule == 13 && first > Some(2));
+            }
             (Ok(_), Ok(months)) => {
                 let (sulphur, nitrogen) = sums(&months);
                 self.too_much_sulphur += u64::from(nitrogen <= MOST_NITROGEN);
@@ -78,6 +94,11 @@ impl Sampled {
         self.limit += u64::from(readings.any(|reading| matches!(reading, Below(_))));
         self.greatest_sulphur += u64::from(numbers[0] == 65_535);
         self.greatest_nitrogen += u64::from(numbers[1] == 65_535);
+        let (sulphur, nitrogen) = sums(months);
+        self.whole_sulphur += u64::from(sulphur > 0 && sulphur % 1600 == 0);
+        self.whole_nitrogen += u64::from(nitrogen > 0 && nitrogen % 1400 == 0);
+        self.rest_sulphur += u64::from(sulphur % 1600 == 1);
+        self.rest_nitrogen += u64::from(nitrogen % 1400 == 1);
     }
 
     /// A refusal by 8, 12 or 13.
@@ -85,17 +106,21 @@ impl Sampled {
         let (sulphur, nitrogen) = sums(&months[..index]);
         self.after_too_much += u64::from(sulphur > MOST_SULPHUR || nitrogen > MOST_NITROGEN);
         let month = &months[index];
+        let at_fault = |reading: &Reading| reading.micrograms().is_err();
+        let mut faults = readings(month).into_iter().filter(at_fault);
+        let reading = faults.next();
         if rule == 8 {
             self.rain[index] += 1;
+            self.rain_and_reading += u64::from(reading.is_some());
             return;
         }
-        let mut readings = readings(month).into_iter();
-        let reading = readings.find(|reading| reading.micrograms().is_err());
         let Some(x) = reading.and_then(float) else {
             self.missing[index] += 1;
             self.missing_at_0_mm += u64::from(month.rain == 0);
+            self.missing_then_bad += u64::from(faults.any(|fault| float(fault).is_some()));
             return;
         };
+        self.bad_then_missing += u64::from(faults.any(|fault| float(fault).is_none()));
         self.concentration[index] += 1;
         self.not_a_number += u64::from(x.is_nan());
         self.infinite += u64::from(x.is_infinite());
@@ -129,6 +154,10 @@ impl Sampled {
                 ("next above 1000", self.above_most),
                 ("bad limit", self.bad_limit),
                 ("missing at 0 mm", self.missing_at_0_mm),
+                ("case above 2", self.case_above_2),
+                ("rain and reading", self.rain_and_reading),
+                ("12 before 13", self.bad_then_missing),
+                ("13 before 12", self.missing_then_bad),
                 ("14 by sulphur alone", self.too_much_sulphur),
                 ("14 by nitrogen alone", self.too_much_nitrogen),
                 ("below a limit", self.limit),
@@ -137,6 +166,10 @@ impl Sampled {
                 ("1000", self.most),
                 ("sulphur 65535", self.greatest_sulphur),
                 ("nitrogen 65535", self.greatest_nitrogen),
+                ("sulphur, no rest", self.whole_sulphur),
+                ("nitrogen, no rest", self.whole_nitrogen),
+                ("sulphur, rest of 1", self.rest_sulphur),
+                ("nitrogen, rest of 1", self.rest_nitrogen),
                 ("within, own pair over", self.within_for_over),
                 ("over, own pair within", self.over_for_within),
             ]
