@@ -59,7 +59,7 @@ pub fn refuse_checked(site: Site, rule: Rule, at: usize) -> SampleAnswer
     }
 }
 
-// The judgement checks the site, so that each site is checked once.
+// The year comes first: where it has a pair, the judgement's own check is the site's, so that a site is checked once.
 pub fn judge_months(site: Site, months: [Month; 12]) -> SampleAnswer
     ensures answer { λ r. ⌜ r ≡ sampleAnswer site months ⌝ }
     ensures values { λ r. ⌜ sampleValues r ≡ valuesIf (siteRule site) (yearValues (termsOf site) (yearOf months)) ⌝ }
