@@ -2,9 +2,9 @@
  * Forest site instrument: critical loads, exceedances and verdict.
  *
  * A result is one number. Below 2^32 it is a count: of bytes for forest_list, forest_pages, forest_report and
- * forest_rewrite, of numbers for forest_loads, forest_judge and forest_sample, and 0 for forest_check. From 2^32 on it is a
- * refusal: rule number * 2^32 + offset. A refusal alters no byte of the lent buffer; a success alters the first `count`
- * elements alone.
+ * forest_rewrite, of numbers for forest_loads, forest_level, forest_judge and forest_sample, and 0 for forest_check. From
+ * 2^32 on it is a refusal: rule number * 2^32 + offset. A refusal alters no byte of the lent buffer; a success alters the
+ * first `count` elements alone.
  *
  *   Refusal                                                                            Offset
  *    1  no bytes                                                                       0
@@ -94,6 +94,12 @@ uint64_t forest_check(const uint8_t *site, size_t site_len);
 
 /* Four numbers: CLmaxS, CLminN, CLmaxN, CLnutN. Stack: 1 KiB. */
 uint64_t forest_loads(const uint8_t *site, size_t site_len, uint64_t *out, size_t out_len);
+
+/* Two numbers: the greatest allowed hydrogen level h, in tenths of meq per cubic metre, and how many levels the search
+ * compared with the aluminium limit. It looks at the ceiling first and, only if that is not allowed, always at the mean,
+ * down, of the greatest level known allowed (0 at first, not compared) and the least known not, until these are neighbours.
+ * So it is 1 exactly where the ceiling is allowed, and never more than 14. Stack: 1 KiB. */
+uint64_t forest_level(const uint8_t *site, size_t site_len, uint64_t *out, size_t out_len);
 
 /* Eight numbers: the four loads, region (0 to 4), acid exceedance, nutrient exceedance, mark (0 within, 1 over).
  * Stack: 1 KiB. */

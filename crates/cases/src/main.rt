@@ -6,12 +6,15 @@
 //   P  a file: its pages, or the line of its refusal
 //   T  two bytes, a count with the high byte first, then one record: the pages of a file of that many such records, as far as the buffer holds them
 //   M  a record, then months of the rain sampler, those left out being dry: the pair of the year and its judgement at the record's site, or the line of its refusal
+//   H  a record: the hydrogen level of its site and how many levels were compared, or the line of its refusal
 ghost use Prim.Native.Nat.{_≤_};
 ghost use lib.ListN.{length};
 ghost use Rattle.io.specs.Counts.{Counts};
 use judgement::Verdict;
 use judgement::region_number;
+use level::level_at;
 use listing::report;
+use loads::LevelAnswer;
 use numbers::wide16;
 use numbers::word_at;
 use output::Written;
@@ -226,12 +229,30 @@ fn print_months(bytes: &[u8]) {
     }
 }
 
+fn print_level(bytes: &[u8]) {
+    let read = read_record(bytes);
+    let site = read.site;
+    let outcome = read.outcome;
+    match outcome {
+        Outcome::Refused { rule, at } => print_refusal(rule, at),
+        Outcome::Accepted => match level_at(site) {
+            LevelAnswer::Refused(rule) => print_refusal(rule, 0),
+            LevelAnswer::Given(found) => {
+                print_number(found.level);
+                print_number(found.compared);
+                io::write_all(1, b"compared\n");
+            }
+        },
+    }
+}
+
 fn print_vector(kind: u8, bytes: &[u8], out: &mut [u8]) {
     match kind {
         70 => {
             let written = report(bytes, out);
             print_written(out, written);
         }
+        72 => print_level(bytes),
         77 => print_months(bytes),
         80 => print_pages(bytes),
         82 => print_rewritten(bytes, out),

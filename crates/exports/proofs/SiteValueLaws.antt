@@ -15,6 +15,8 @@ use Rattle.site.specs.declared.Site.{Site}
 use Rattle.site.proofs.Passing.{both-passed}
 use Rattle.loads.specs.SiteTerms.{termsOf}
 use Rattle.loads.specs.CriticalLoads.{loadNumbers}
+use Rattle.loads.specs.Search.{FewAt}
+use Rattle.level.proofs.SiteLevelLaws.{few-at}
 use Rattle.judgement.specs.declared.Verdict.{Verdict}
 use Rattle.judgement.specs.declared.Verdict.the-variants.{Within, Over}
 use Rattle.judgement.specs.Verdicts.{verdict, verdictNumbers}
@@ -29,7 +31,7 @@ use Rattle.output.proofs.WritingLaws.{in-front}
 use Rattle.output.proofs.OutputLaws.{output-broken, output-short, output-whole, output-passed}
 use Rattle.exports.specs.Codes.{codeBase, writtenCode, Decodes}
 use Rattle.exports.proofs.CodeLaws.{count-below, by-check-decodes}
-use Rattle.exports.specs.Layout.{siteIn, valueCheck, valueAnswer, siteLoadNumbers, markNumber, verdictMarked, judgementNumbers}
+use Rattle.exports.specs.Layout.{siteIn, valueCheck, valueAnswer, siteLoadNumbers, levelNumbers, markNumber, verdictMarked, judgementNumbers}
 
 module _ (b : List ℕ) where
   pub wrong-length : (length b ≡ 50 → ⊥) → valueCheck b ≡ Broken BadLength
@@ -100,27 +102,42 @@ unfolding answerIf
 counted-passed Passed n e = refl
 counted-passed (Broken r) n e = let z : _≡_ {A = ℕ} 0 1 = cc in absurd (omega arith)
 
+-- ---- what the numbers say, where they were written
+
+module _ (b : List ℕ) (needed : ℕ) (small : needed < codeBase) (xs old new : List ℕ) where
+  -- the count says that the value passed and that the numbers stand in front
+  in-place : {r : ℕ}
+      → r ≡ writtenCode (valueAnswer b needed (length old)) → new ≡ heldAfter (outputRule (valueCheck b) needed (length old)) xs old
+      → r ≡ needed → (valueCheck b ≡ Passed) × (new ≡ xs ++ drop (length xs) old)
+  unfolding heldAfter
+  in-place a h e =
+      let passed = output-passed needed (length old) (valueCheck b) (counted-passed _ needed (count-below _ a (omega arith))) in
+      (passed .0, rw (output-whole needed (length old) (valueCheck b) (passed .0) (passed .1)) at h)
+
+  -- so what they then say is promised beside the rest
+  said : {r : ℕ} {A Says : Type 0}
+      → (valueCheck b ≡ Passed → new ≡ xs ++ drop (length xs) old → Says)
+      → (r ≡ writtenCode (valueAnswer b needed (length old))) × ((new ≡ heldAfter (outputRule (valueCheck b) needed (length old)) xs old) × A)
+      → (r ≡ writtenCode (valueAnswer b needed (length old)))
+      × ((new ≡ heldAfter (outputRule (valueCheck b) needed (length old)) xs old) × (A × (r ≡ needed → Says)))
+  said says x = (x .0, (x .1 .0, (x .1 .1, λ e. let p = in-place (x .0) (x .1 .0) e in says (p .0) (p .1))))
+
 module _ (b old new : List ℕ) where
-  mark-is :
-      new ≡ heldAfter (outputRule (valueCheck b) 8 (length old)) (judgementNumbers (siteIn b)) old
-      → valueCheck b ≡ Passed → 8 ≤ length old
-      → getD new 7 0 ≡ markNumber (verdict (termsOf (siteIn b)) (siteIn b .sulphur) (siteIn b .nitrogen))
-  unfolding heldAfter judgementNumbers siteLoadNumbers loadNumbers
-  mark-is e p l =
-      let q : new ≡ judgementNumbers (siteIn b) ++ drop (length (judgementNumbers (siteIn b))) old = rw (output-whole 8 (length old) (valueCheck b) p l) at e in
-      rw q (mark-at (verdict (termsOf (siteIn b)) (siteIn b .sulphur) (siteIn b .nitrogen)) (drop (length (judgementNumbers (siteIn b))) old))
-
-  -- the number 8 says that the judgement was written, and then the mark says whether the balances close
-  mark-says : {r : ℕ}
-      → r ≡ writtenCode (valueAnswer b 8 (length old)) → new ≡ heldAfter (outputRule (valueCheck b) 8 (length old)) (judgementNumbers (siteIn b)) old
-      → r ≡ 8 → MarkSays (getD new 7 0) (siteIn b)
-  mark-says a h e =
-      let passed = output-passed 8 (length old) (valueCheck b) (counted-passed _ 8 (count-below _ a (omega arith))) in
-      rw (mark-is h (passed .0) (passed .1)) (mark-tells (siteIn b) (value-passes b (passed .0)))
-
-  -- so it is promised beside the rest
+  -- the mark says whether the balances close
   pub with-mark : {r : ℕ} {A : Type 0}
       → (r ≡ writtenCode (valueAnswer b 8 (length old))) × ((new ≡ heldAfter (outputRule (valueCheck b) 8 (length old)) (judgementNumbers (siteIn b)) old) × A)
       → (r ≡ writtenCode (valueAnswer b 8 (length old)))
       × ((new ≡ heldAfter (outputRule (valueCheck b) 8 (length old)) (judgementNumbers (siteIn b)) old) × (A × (r ≡ 8 → MarkSays (getD new 7 0) (siteIn b))))
-  with-mark x = (x .0, (x .1 .0, (x .1 .1, mark-says (x .0) (x .1 .0))))
+  unfolding judgementNumbers siteLoadNumbers loadNumbers
+  with-mark = said b 8 (omega arith) (judgementNumbers (siteIn b)) old new (λ p e. rw (e, marked (drop (length (judgementNumbers (siteIn b))) old)) (mark-tells (siteIn b) (value-passes b p)))
+    where
+      marked : (rest : List ℕ) → getD (judgementNumbers (siteIn b) ++ rest) 7 0 ≡ markNumber (verdict (termsOf (siteIn b)) (siteIn b .sulphur) (siteIn b .nitrogen))
+      marked rest = mark-at (verdict (termsOf (siteIn b)) (siteIn b .sulphur) (siteIn b .nitrogen)) rest
+
+  -- the second number says how many levels were compared
+  pub with-count : {r : ℕ} {A : Type 0}
+      → (r ≡ writtenCode (valueAnswer b 2 (length old))) × ((new ≡ heldAfter (outputRule (valueCheck b) 2 (length old)) (levelNumbers (siteIn b)) old) × A)
+      → (r ≡ writtenCode (valueAnswer b 2 (length old)))
+      × ((new ≡ heldAfter (outputRule (valueCheck b) 2 (length old)) (levelNumbers (siteIn b)) old) × (A × (r ≡ 2 → FewAt (termsOf (siteIn b)) (getD new 1 0))))
+  unfolding levelNumbers
+  with-count = said b 2 (omega arith) (levelNumbers (siteIn b)) old new (λ p e. rw e (few-at (siteIn b) (value-passes b p)))

@@ -13,4 +13,5 @@ pub use record_calls::forest_rewrite;
 pub use sample_calls::forest_sample;
 pub use value_calls::forest_check;
 pub use value_calls::forest_judge;
+pub use value_calls::forest_level;
 pub use value_calls::forest_loads;

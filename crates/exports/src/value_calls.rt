@@ -1,12 +1,14 @@
-// Check, loads and judgement of a site value.
+// Check, loads, hydrogen level and judgement of a site value.
 ghost use mathlib.Core.Path.{_≡_};
 ghost use Prim.Native.Nat.{_+_, _≤_};
 ghost use lib.ListN.{length, getD};
+ghost use Rattle.loads.specs.SiteTerms.{termsOf};
+ghost use Rattle.loads.specs.Search.{FewAt};
 ghost use Rattle.judgement.specs.Balance.{MarkSays};
 ghost use Rattle.output.specs.Output.{writeAnswer, outputRule, heldAfter};
 ghost use Rattle.output.specs.Writing.{Wrote};
 ghost use Rattle.exports.specs.Codes.{writtenCode, Decodes};
-ghost use Rattle.exports.specs.Layout.{siteIn, valueCheck, valueAnswer, siteLoadNumbers, judgedNumbers, judgementNumbers, verdictMarked};
+ghost use Rattle.exports.specs.Layout.{siteIn, valueCheck, valueAnswer, siteLoadNumbers, levelNumbers, judgedNumbers, judgementNumbers, verdictMarked};
 use crate::codes::refusal_code;
 use crate::layout::site_in;
 use judgement::Judged;
@@ -14,6 +16,8 @@ use judgement::JudgementAnswer;
 use judgement::Verdict;
 use judgement::judge;
 use judgement::region_number;
+use level::level_at;
+use loads::LevelAnswer;
 use loads::LoadsAnswer;
 use loads::critical_loads;
 use site::Checked;
@@ -62,6 +66,29 @@ pub extern "C" fn forest_loads(site: &[u8], out: &mut [u64]) -> u64
             }
             put_four(out, 0, [l.max_s, l.min_n, l.max_n, l.nut_n]);
             4
+        }
+    }
+}
+
+#[no_mangle]
+pub extern "C" fn forest_level(site: &[u8], out: &mut [u64]) -> u64
+    ensures answer { λ r. ⌜ r ≡ writtenCode (valueAnswer (now (site .entry)) 2 (length (now (out .entry)))) ⌝ }
+    ensures buffer { λ _. ⌜ now (out .exit) ≡ heldAfter (outputRule (valueCheck (now (site .entry))) 2 (length (now (out .entry)))) (levelNumbers (siteIn (now (site .entry)))) (now (out .entry)) ⌝ }
+    ensures decoded { λ r. ⌜ Decodes (valueAnswer (now (site .entry)) 2 (length (now (out .entry)))) r ⌝ }
+    ensures count { λ r. ⌜ (r ≡ 2 → FewAt (termsOf (siteIn (now (site .entry)))) (getD (now (out .exit)) 1 0)) ⌝ }
+{
+    if site.len() != 50 {
+        return refusal_code(Rule::BadLength, 0);
+    }
+    match level_at(site_in(site)) {
+        LevelAnswer::Refused(rule) => refusal_code(rule, 0),
+        LevelAnswer::Given(found) => {
+            if out.len() < 2 {
+                return refusal_code(Rule::BufferShort, 0);
+            }
+            out[0] = found.level;
+            out[1] = found.compared;
+            2
         }
     }
 }

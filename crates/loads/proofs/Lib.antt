@@ -5,8 +5,11 @@ pub mod TextureLaws
 pub mod UptakeLaws
 pub mod GreatestLaws
 pub mod LevelLaws
+pub mod SearchLaws
+pub mod LevelAnswers
 pub mod TermLaws
 pub mod SiteTermLaws
 pub mod LoadBounds
 pub mod OneSiteLaws
+pub mod LimitAnswers
 pub mod LoadsAnswers

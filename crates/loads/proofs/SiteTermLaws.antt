@@ -13,12 +13,11 @@ use Rattle.loads.specs.Texture.{textureOf}
 use Rattle.loads.specs.Weathering.{classOf, weatheringOf, weathering, availableOf, availableWeathering}
 use Rattle.loads.specs.Uptake.{baseIn, nitrogenIn, standSum, uptakeDivisor, nitrogenUptake, baseDemand, baseUptakeOf, baseUptake}
 use Rattle.loads.specs.Supply.{baseSupply, limitOf, aluminiumLimit}
-use Rattle.loads.specs.Hydrogen.{hydrogen, aluminium, greatestLevel, criticalLeaching}
+use Rattle.loads.specs.Hydrogen.{hydrogenOf, alOf, levelOf, hydrogen, aluminium, greatestLevel, criticalLeaching}
 use Rattle.loads.specs.Nitrogen.{leachingOf, leaching}
 use Rattle.loads.specs.Terms.{TermBounds}
 use Rattle.loads.specs.SiteTerms.{termsOf}
 use Rattle.loads.specs.CriticalLoads.{maxS, minN}
-use Rattle.loads.specs.LoadsConditions.{acidLoad}
 use Rattle.loads.proofs.Numbers.{prod, part-le, quotient-le, pick-le}
 use Rattle.loads.proofs.Tables.{class-le}
 use Rattle.loads.proofs.TextureLaws.{texture-between}
@@ -53,11 +52,23 @@ module _ (s : Site) where
   unfolding termsOf leaching
   leaching-is = refl
 
-  -- CLmaxS and CLminN by plain numbers
+  -- the base supply, A, CLmaxS and CLminN by plain numbers
+  pub supply-plain :
+      termsOf s .supply
+      ≡ (s .«base_deposition») + weathering s - baseUptakeOf (baseDemand s) ((s .«base_deposition») + availableWeathering s) (s .percolation)
+  unfolding termsOf baseSupply baseUptake
+  supply-plain = refl
+
+  pub limit-plain :
+      termsOf s .A
+      ≡ limitOf ((s .«base_deposition») + availableWeathering s - baseUptakeOf (baseDemand s) ((s .«base_deposition») + availableWeathering s) (s .percolation)) (s .ratio)
+  unfolding termsOf aluminiumLimit baseUptake
+  limit-plain = refl
+
   pub maxS-plain :
-      maxS (termsOf s)
-      ≡ acidLoad (s .«base_deposition») (s .percolation) (weathering s) (availableWeathering s) (baseDemand s) (s .ratio) (s .gibbsite) (s .ceiling)
-  unfolding termsOf baseSupply aluminiumLimit baseUptake maxS criticalLeaching hydrogen aluminium greatestLevel acidLoad
+      let h = levelOf (s .percolation) (s .gibbsite) (termsOf s .A) (s .ceiling) in
+      maxS (termsOf s) ≡ termsOf s .supply + (hydrogenOf (s .percolation) h + alOf (s .percolation) (s .gibbsite) h)
+  unfolding termsOf maxS criticalLeaching hydrogen aluminium greatestLevel
   maxS-plain = refl
 
   pub minN-plain : minN (termsOf s) ≡ standSum nitrogenIn (s .stand) (s .entries) / uptakeDivisor + s .immobilisation

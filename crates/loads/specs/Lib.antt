@@ -7,7 +7,9 @@ pub mod Uptake
 pub mod Supply
 pub mod Nitrogen
 pub mod SiteTerms
+pub mod Limits
 pub mod Hydrogen
+pub mod Search
 pub mod CriticalLoads
 pub mod LoadsConditions
 pub mod ExampleTerms

@@ -3,11 +3,11 @@ use Prim.Native.Nat.{ℕ, _+_, _*_, _-_, _≤_, _<_}
 use mathlib.Core.Path.{_≡_}
 use mathlib.Core.List.{List}
 use Rattle.site.specs.declared.Entry.{Entry}
+use Rattle.site.specs.declared.Site.{Site}
 use Rattle.site.specs.Ranges.{mostEntries, percolationRange, gibbsiteRange, ceilingRange, baseDepositionRange}
 use Rattle.loads.specs.MostTerms.{mostWeathering, mostA, mostMaxS, mostMinN, mostL, mostNitrogenWeight, mostBaseWeight}
 use Rattle.loads.specs.Uptake.{nitrogenIn, baseIn, weightOf, standSum, baseUptakeOf}
 use Rattle.loads.specs.Supply.{limitOf}
-use Rattle.loads.specs.Hydrogen.{hydrogenOf, alOf, levelOf}
 
 -- percolation, gibbsite constant, and a hydrogen level or ceiling
 pub record Levels (q k h : ℕ) : Type 0 where
@@ -29,16 +29,24 @@ pub record Summed (stand : List Entry) (k n b : ℕ) : Type 0 where
   pub nitrogen-le : n ≤ mostEntries * mostNitrogenWeight
   pub base-le : b ≤ mostEntries * mostBaseWeight
 
--- base deposition, percolation, W, w, ratio, gibbsite constant and ceiling
-pub record AcidBounds (b q weathered available ratio k ceiling : ℕ) : Type 0 where
+-- the sum of the bases over the stand of a site
+pub record BaseSum (s : Site) (sum : ℕ) : Type 0 where
+  pub summed : sum ≡ standSum baseIn (s .stand) (s .entries)
+  pub sum-le : sum ≤ mostEntries * mostBaseWeight
+
+-- base deposition, percolation, W, w and ratio
+pub record BaseBounds (b q weathered available ratio : ℕ) : Type 0 where
   pub deposition : b ≤ baseDepositionRange .most
   pub percolation : q ≤ percolationRange .most
   pub weathering : weathered ≤ mostWeathering
   pub part : available ≤ weathered
   pub limit : 1500 * (b + available) ≤ mostA * ratio
   pub divisor : 0 < ratio
-  pub gibbsite : k ≤ gibbsiteRange .most
-  pub level : ceiling ≤ ceilingRange .most
+
+-- the base supply and the aluminium limit of these and a base demand
+pub record BasesLeft (b q weathered available demand ratio supply limit : ℕ) : Type 0 where
+  pub supplied : supply ≡ b + weathered - baseUptakeOf demand (b + available) q
+  pub limited : limit ≡ limitOf (b + available - baseUptakeOf demand (b + available) q) ratio
 
 -- CLmaxS, CLminN, L and e
 pub record NitrogenBounds (c m leached e : ℕ) : Type 0 where
@@ -46,10 +54,3 @@ pub record NitrogenBounds (c m leached e : ℕ) : Type 0 where
   pub nitrogen : m ≤ mostMinN
   pub leaching : leached ≤ mostL
   pub divisor : 0 < e
-
--- CLmaxS of plain numbers
-unfoldable pub acidLoad : (b q weathered available demand ratio k ceiling : ℕ) → ℕ
-acidLoad b q weathered available demand ratio k ceiling =
-    let taken = baseUptakeOf demand (b + available) q in
-    let h = levelOf q k (limitOf (b + available - taken) ratio) ceiling in
-    b + weathered - taken + (hydrogenOf q h + alOf q k h)

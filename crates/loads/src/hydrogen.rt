@@ -1,26 +1,20 @@
-// The aluminium limit, and the hydrogen level.
+// The hydrogen level: the search for the greatest allowed one, and what is leached there.
 ghost use mathlib.Core.Path.{_≡_};
-ghost use Prim.Native.Nat.{_+_, _*_, _≤_, _<_};
+ghost use Prim.Native.Nat.{_+_, _≤_};
 ghost use mathlib.Core.List.{[], _∷_};
+ghost use lib.ListN.{length};
 ghost use Rattle.site.specs.Refusal.{valuesIf};
-ghost use Rattle.loads.specs.MostTerms.{mostSupply, mostA, mostHydrogen};
-ghost use Rattle.loads.specs.Supply.{limitOf};
-ghost use Rattle.loads.specs.Hydrogen.{hydrogenOf, alOf, levelOf, levelRule, levelAnswer, levelValues};
+ghost use Rattle.loads.specs.MostTerms.{mostHydrogen};
+ghost use Rattle.loads.specs.Hydrogen.{hydrogenOf, alOf, levelOf};
+ghost use Rattle.loads.specs.Search.{comparedOf, foundOf, FewCompared, levelRule, levelAnswer, levelValues};
 ghost use Rattle.loads.specs.LoadsConditions.{Levels};
+use crate::Found;
 use crate::LevelAnswer;
 use numbers::wide16;
 use site::Checked;
 use site::ceiling_rule;
 use site::gibbsite_rule;
 use site::percolation_rule;
-
-// A: left is B + w − Bu
-pub fn aluminium_limit(left: u64, ratio: u64) -> u64
-    requires { ⌜ (left ≤ mostSupply) × (0 < ratio) × (1500 * left ≤ mostA * ratio) ⌝ }
-    ensures { λ r. ⌜ (r ≡ limitOf left ratio) × (r ≤ mostA) ⌝ }
-{
-    1500 * left / ratio
-}
 
 // al(h)
 fn aluminium_at(q: u64, k: u64, h: u64) -> u64
@@ -30,25 +24,33 @@ fn aluminium_at(q: u64, k: u64, h: u64) -> u64
     q * k * (h * h * h) / 1_000_000_000_000
 }
 
-// The greatest allowed level by bisection, the ceiling first: at most 14 values of al(h).
-fn level(q: u64, k: u64, limit: u64, ceiling: u64) -> u64
+// The greatest allowed level, from the ceiling down: low is the greatest level known allowed, high the least known not.
+fn search(q: u64, k: u64, limit: u64, ceiling: u64) -> Found
     requires { ⌜ Levels q k ceiling ⌝ }
-    ensures { λ r. ⌜ r ≡ levelOf q k limit ceiling ⌝ }
+    ensures { λ r. ⌜ r ≡ foundOf q k limit ceiling ⌝ }
 {
     if aluminium_at(q, k, ceiling) <= limit {
-        return ceiling;
+        return Found {
+            level: ceiling,
+            compared: 1,
+        };
     }
     let mut low = 0;
     let mut high = ceiling;
+    let mut compared = 1;
     while low + 1 < high {
         let middle = (low + high) / 2;
+        compared += 1;
         if aluminium_at(q, k, middle) <= limit {
             low = middle;
         } else {
             high = middle;
         }
     }
-    low
+    Found {
+        level: low,
+        compared,
+    }
 }
 
 // M
@@ -56,7 +58,8 @@ pub fn critical_leaching(q: u64, k: u64, limit: u64, ceiling: u64) -> u64
     requires { ⌜ Levels q k ceiling ⌝ }
     ensures { λ r. ⌜ (r ≡ hydrogenOf q (levelOf q k limit ceiling) + alOf q k (levelOf q k limit ceiling)) × (r ≤ mostHydrogen + limit) ⌝ }
 {
-    let h = level(q, k, limit, ceiling);
+    let found = search(q, k, limit, ceiling);
+    let h = found.level;
     q * h / 1000 + aluminium_at(q, k, h)
 }
 
@@ -73,18 +76,14 @@ fn level_rule(q: u16, k: u16, ceiling: u16) -> Checked
     }
 }
 
-// The greatest allowed level for percolation q, gibbsite constant k, aluminium limit and hydrogen ceiling.
+// The greatest allowed level for percolation q, gibbsite constant k, aluminium limit and hydrogen ceiling, and how many levels were compared.
 pub fn greatest_level(q: u16, k: u16, limit: u64, ceiling: u16) -> LevelAnswer
     ensures answer { λ r. ⌜ r ≡ levelAnswer q k limit ceiling ⌝ }
-    ensures values { λ r. ⌜ levelValues r ≡ valuesIf (levelRule q k ceiling) (levelOf q k limit ceiling ∷ []) ⌝ }
+    ensures values { λ r. ⌜ levelValues r ≡ valuesIf (levelRule q k ceiling) (levelOf q k limit ceiling ∷ length (comparedOf q k limit ceiling) ∷ []) ⌝ }
+    ensures count { λ r. ⌜ ((found : Found) → r ≡ LevelAnswer.Given found → FewCompared q k limit ceiling (found .compared)) ⌝ }
 {
     match level_rule(q, k, ceiling) {
         Checked::Broken(rule) => LevelAnswer::Refused(rule),
-        Checked::Passed => LevelAnswer::Greatest(level(
-            wide16(q),
-            wide16(k),
-            limit,
-            wide16(ceiling),
-        )),
+        Checked::Passed => LevelAnswer::Given(search(wide16(q), wide16(k), limit, wide16(ceiling))),
     }
 }

@@ -1,4 +1,5 @@
 // The critical loads of a site: the terms of document 01, "Terms, in order".
+mod bases;
 mod critical;
 mod hydrogen;
 mod nitrogen;
@@ -6,14 +7,27 @@ mod texture;
 mod uptake;
 mod weathering;
 
+pub use bases::aluminium_limit;
 pub use critical::critical_loads;
 pub use hydrogen::greatest_level;
 pub use nitrogen::undenitrified_at;
 use site::Rule;
 
-// The greatest allowed hydrogen level, or the rule that a number breaks.
+// The aluminium limit, or the rule that the site breaks.
+pub enum LimitAnswer {
+    Given(u64),
+    Refused(Rule),
+}
+
+// The greatest allowed hydrogen level, and how many levels were compared with the aluminium limit to find it.
+pub struct Found {
+    pub level: u64,
+    pub compared: u64,
+}
+
+// What the search found, or the rule that is broken.
 pub enum LevelAnswer {
-    Greatest(u64),
+    Given(Found),
     Refused(Rule),
 }
 

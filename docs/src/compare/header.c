@@ -114,6 +114,18 @@ int main(void) {
     expect_numbers("room for three loads", forest_loads(site, SITE, numbers, 3), refusal(11, 0), judged, 0);
     expect_numbers("loads of no site", forest_loads(NULL, 0, NULL, 0), refusal(7, 0), judged, 0);
 
+    static const uint64_t searched[2] = {818, 11}, at_once[2] = {818, 1};
+    uint8_t low_ceiling[SITE], no_ceiling[SITE];
+    memcpy(low_ceiling, site, SITE);
+    low_ceiling[42] = 818 >> 8, low_ceiling[43] = 818 & 0xFF;
+    memcpy(no_ceiling, site, SITE);
+    no_ceiling[42] = no_ceiling[43] = 0;
+    expect_numbers("a level", forest_level(site, SITE, numbers, 2), 2, searched, 2);
+    expect_numbers("a ceiling allowed", forest_level(low_ceiling, SITE, numbers, 11), 2, at_once, 2);
+    expect_numbers("a ceiling of 0", forest_level(no_ceiling, SITE, numbers, 11), refusal(8, 0), searched, 0);
+    expect_numbers("room for a level alone", forest_level(site, SITE, numbers, 1), refusal(11, 0), searched, 0);
+    expect_numbers("a level of no site", forest_level(NULL, 0, NULL, 0), refusal(7, 0), searched, 0);
+
     expect_numbers("a judgement", forest_judge(site, SITE, numbers, 8), 8, judged, 8);
     expect_numbers("room for seven numbers", forest_judge(site, SITE, numbers, 7), refusal(11, 0), judged, 0);
     expect_numbers("a judgement of no site", forest_judge(NULL, 0, NULL, 0), refusal(7, 0), judged, 0);

@@ -45,6 +45,7 @@ static void report(void) { forest_report(in.bytes, in.length, bytes_out(), in.ro
 static void rewrite(void) { forest_rewrite(in.bytes, in.length, bytes_out(), in.room); }
 static void check(void) { forest_check(in.bytes, in.length); }
 static void loads(void) { forest_loads(in.bytes, in.length, numbers_out(), in.room); }
+static void level(void) { forest_level(in.bytes, in.length, numbers_out(), in.room); }
 static void judge(void) { forest_judge(in.bytes, in.length, numbers_out(), in.room); }
 static void sample(void) {
     forest_sample(in.bytes, in.length, months, MONTHS, numbers_out(), in.room);
@@ -89,6 +90,7 @@ int main(void) {
     measure("forest_rewrite", rewrite, records);
     measure("forest_check", check, sites);
     measure("forest_loads", loads, sites);
+    measure("forest_level", level, sites);
     measure("forest_judge", judge, sites);
     measure("forest_sample", sample, sites);
 }

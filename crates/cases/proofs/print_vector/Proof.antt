@@ -10,6 +10,9 @@ report-requires c κs = search needs
 print-written-requires : tie.Need-print-written-requires
 print-written-requires c κs = search needs
 
+print-level-requires : tie.Need-print-level-requires
+print-level-requires c κs = search needs
+
 print-months-requires : tie.Need-print-months-requires
 print-months-requires c κs = search needs
 
@@ -70,12 +73,16 @@ returns-8 c = search needs
 returns-9 : tie.Need-returns-9
 returns-9 c = search needs
 
+returns-10 : tie.Need-returns-10
+returns-10 c = search needs
+
 pub print-vector-spec : {M : Type 1} → statement M
 print-vector-spec =
     tie.close
     (tie.spec
     report-requires
     print-written-requires
+    print-level-requires
     print-months-requires
     print-pages-requires
     print-rewritten-requires
@@ -88,11 +95,12 @@ print-vector-spec =
     returns
     returns-2
     returns-3
-    same-length-2
     returns-4
-    same-length-3
+    same-length-2
     returns-5
+    same-length-3
     returns-6
     returns-7
     returns-8
-    returns-9)
+    returns-9
+    returns-10)

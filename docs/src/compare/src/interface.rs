@@ -1,4 +1,4 @@
-//! The eight calls of `docs/forest.h`, by the static library and by the independent implementation.
+//! The nine calls of `docs/forest.h`, by the static library and by the independent implementation.
 
 use forest::{Judgement, Refusal, Sampled, Site, Verdict};
 
@@ -58,6 +58,17 @@ pub const LOADS: Call<u64> = Call {
     },
     reference: |[site], out| match Site::from_bytes(site).and_then(|site| forest::loads(&site)) {
         Ok(loads) => enter(&[loads.max_s, loads.min_n, loads.max_n, loads.nut_n], out),
+        Err(refusal) => refused(refusal),
+    },
+};
+
+pub const LEVEL: Call<u64> = Call {
+    name: "forest_level",
+    library: |[site], out| unsafe {
+        c::forest_level(site.as_ptr(), site.len(), out.as_mut_ptr(), out.len())
+    },
+    reference: |[site], out| match Site::from_bytes(site).and_then(|site| forest::level(&site)) {
+        Ok(found) => enter(&[found.level, found.compared], out),
         Err(refusal) => refused(refusal),
     },
 };
@@ -122,6 +133,8 @@ mod c {
         ) -> u64;
         pub fn forest_check(site: *const u8, site_len: usize) -> u64;
         pub fn forest_loads(site: *const u8, site_len: usize, out: *mut u64, out_len: usize)
+            -> u64;
+        pub fn forest_level(site: *const u8, site_len: usize, out: *mut u64, out_len: usize)
             -> u64;
         pub fn forest_judge(site: *const u8, site_len: usize, out: *mut u64, out_len: usize)
             -> u64;

@@ -1,3 +1,4 @@
+use crate::level::{search, Found};
 use crate::refusal::Refusal;
 use crate::site::{check, Site};
 
@@ -29,6 +30,8 @@ pub struct Terms {
     pub aluminium_limit: i64,
     /// The greatest allowed h, tenths of meq m⁻³.
     pub level: i64,
+    /// How many levels were compared with A to find it.
+    pub compared: i64,
     /// M, hydrogen and aluminium leached at the greatest allowed h.
     pub acid_leaching: i64,
     /// e, what denitrification leaves, per mille.
@@ -113,24 +116,6 @@ pub fn aluminium(site: &Site, h: i64) -> i64 {
     dissolved / 1_000_000_000_000
 }
 
-/// The greatest level up to the ceiling whose aluminium keeps within the limit.
-fn greatest_level(site: &Site, limit: i64) -> i64 {
-    let ceiling = i64::from(site.hydrogen_ceiling);
-    if aluminium(site, ceiling) <= limit {
-        return ceiling;
-    }
-    let (mut allowed, mut forbidden) = (0, ceiling);
-    while forbidden - allowed > 1 {
-        let middle = (allowed + forbidden) / 2;
-        if aluminium(site, middle) <= limit {
-            allowed = middle;
-        } else {
-            forbidden = middle;
-        }
-    }
-    allowed
-}
-
 impl Terms {
     /// The terms of a site that passes the checks.
     pub fn of(site: &Site) -> Terms {
@@ -143,7 +128,9 @@ impl Terms {
         let base_uptake = demand.min((supply - up(percolation, 10)).max(0));
         let aluminium_limit = 1500 * (supply - base_uptake) / i64::from(site.critical_ratio);
 
-        let level = greatest_level(site, aluminium_limit);
+        let Found { level, compared } = search(i64::from(site.hydrogen_ceiling), |h| {
+            aluminium(site, h) <= aluminium_limit
+        });
         Terms {
             weathering,
             available,
@@ -151,6 +138,7 @@ impl Terms {
             base_uptake,
             aluminium_limit,
             level,
+            compared,
             acid_leaching: hydrogen(site, level) + aluminium(site, level),
             left: 1000 - denitrified(site),
             leaching: percolation * i64::from(site.leachate_nitrogen) / 100,

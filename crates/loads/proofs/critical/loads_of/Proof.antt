@@ -2,7 +2,7 @@ use native.Mathlib.Omega.{arith}
 use Rattle.loads.specs.SiteTerms.{termsOf}
 use Rattle.loads.proofs.DenitrifiedLaws.{undenitrified-pos}
 use Rattle.loads.proofs.TermLaws.{loads-by}
-use Rattle.loads.proofs.SiteTermLaws.{demand-is, minN-plain, leaching-is}
+use Rattle.loads.proofs.SiteTermLaws.{minN-plain, leaching-is}
 use borrow.Author.Needs.{needs}
 use Rattle.loads.proofs.critical.loads_of.Statement.{statement}
 use Rattle.loads.proofs.critical.loads_of.Tie as tie
@@ -12,9 +12,6 @@ wide-requires c κs = search needs
 
 stand-sums-requires : tie.Need-stand-sums-requires
 stand-sums-requires c κs = rw (c .wide .ensures .0) (c .before .before .pre .stand)
-
-add-demand : tie.Need-add-demand
-add-demand c = search needs
 
 wide16-requires : tie.Need-wide16-requires
 wide16-requires c κs = search needs
@@ -36,12 +33,12 @@ undenitrified-at-requires c κs = search needs
 
 max-s-of-requires : tie.Need-max-s-of-requires
 max-s-of-requires c κs =
-    let at = c .before .before .before .before .before .before .before in
-    (at .before .before .before .pre, rw (demand-is (at .before .before .before .args .s), at .stand-sums .ensures .base, at .before .wide .ensures .0))
+    let at = c .before .before .before .before .before .before in
+    (at .before .before .before .pre, record { summed = rw (at .stand-sums .ensures .base, at .before .wide .ensures .0); sum-le = at .stand-sums .ensures .base-le })
 
 with-nitrogen-requires : tie.Need-with-nitrogen-requires
 with-nitrogen-requires c κs =
-    let at = c .before .before .before .before .before .before .before .before in
+    let at = c .before .before .before .before .before .before .before in
     let b = at .before .before .before .pre in
     record {
       acid = c .max-s-of .ensures .1;
@@ -52,7 +49,7 @@ with-nitrogen-requires c κs =
 
 returns : tie.Need-returns
 returns c =
-    let at = c .before .before .before .before .before .before .before .before .before in
+    let at = c .before .before .before .before .before .before .before .before in
     let s = at .before .before .before .args .s in
     rw (c .with-nitrogen .ensures)
     (loads-by (termsOf s) _ _ _ _ (c .before .max-s-of .ensures .0)
@@ -66,7 +63,6 @@ loads-of-spec =
     (tie.spec
     wide-requires
     stand-sums-requires
-    add-demand
     wide16-requires
     add-min-n
     wide16-requires-2

@@ -1,30 +1,14 @@
--- `loads::critical::max_s_of` meets its contract: each part is the site's term, by its law.
-use mathlib.Core.Path.{_≡_, sym, _∙_}
+-- `loads::critical::max_s_of` meets its contract: the base supply, and what is leached at the greatest allowed level.
+use Prim.Native.Nat.{_+_, _≤_}
 use native.Mathlib.Omega.{arith}
-use Rattle.loads.specs.Weathering.{weathering, availableWeathering}
-use Rattle.loads.proofs.SiteTermLaws.{weathering-is, available-is, maxS-plain, part-bounds}
+use Rattle.loads.specs.MostTerms.{mostMaxS}
+use Rattle.loads.proofs.SiteTermLaws.{maxS-plain, term-bounds}
 use borrow.Author.Needs.{needs}
 use Rattle.loads.proofs.critical.max_s_of.Statement.{statement}
 use Rattle.loads.proofs.critical.max_s_of.Tie as tie
 
-weathered : (c : tie.After-weathering-of) → c .weathering-of .result ≡ weathering (c .before .args .s)
-weathered c = c .weathering-of .ensures ∙ sym (weathering-is (c .before .args .s))
-
-available : (c : tie.After-available-of) → c .available-of .result ≡ availableWeathering (c .before .before .before .args .s)
-available c = cc (available-is (c .before .before .before .args .s), weathered (c .before .before), c .available-of .ensures .0, c .before .wide8 .ensures .0)
-
-weathering-of-requires : tie.Need-weathering-of-requires
-weathering-of-requires c κs = search needs
-
-wide8-requires : tie.Need-wide8-requires
-wide8-requires c κs = search needs
-
-available-of-requires : tie.Need-available-of-requires
-available-of-requires c κs =
-    let s = c .before .before in (
-      rw (weathered (c .before)) (part-bounds (s .args .s) (s .pre .0) .weathering-le),
-      rw (c .wide8 .ensures .0) (s .pre .0 .available),
-    )
+bases-at-requires : tie.Need-bases-at-requires
+bases-at-requires c κs = search needs
 
 wide16-requires : tie.Need-wide16-requires
 wide16-requires c κs = search needs
@@ -35,60 +19,42 @@ wide16-requires-2 c κs = search needs
 wide16-requires-3 : tie.Need-wide16-requires-3
 wide16-requires-3 c κs = search needs
 
-wide16-requires-4 : tie.Need-wide16-requires-4
-wide16-requires-4 c κs = search needs
+critical-leaching-requires : tie.Need-critical-leaching-requires
+critical-leaching-requires c κs = search needs
 
-wide16-requires-5 : tie.Need-wide16-requires-5
-wide16-requires-5 c κs = search needs
-
-acid-load-requires : tie.Need-acid-load-requires
-acid-load-requires c κs =
+-- the sum is at most the greatest CLmaxS
+at-most : (c : tie.After-struct-known) → c .before .before .before .before .before .bases-at .result .supply + c .before .critical-leaching .result ≤ mostMaxS
+at-most c =
     let at = c .before .before .before .before .before in
-    let s = at .before .before .before in
-    let b = s .pre .0 in
-    record {
-      deposition = rw (c .before .before .before .before .wide16 .ensures .0) (b .deposition);
-      percolation = rw (c .before .before .before .wide162 .ensures .0) (b .percolation);
-      weathering = rw (weathered (at .before .before)) (part-bounds (s .args .s) b .weathering-le);
-      part = at .available-of .ensures .1;
-      limit =
-          omega
-          (arith, c .before .before .before .before .wide16 .ensures .0, b .deposition, available at, part-bounds (s .args .s) b .available-le, c .before .before .wide163 .ensures .0, b .ratio);
-      divisor = rw (c .before .before .wide163 .ensures .0) (omega (arith, b .ratio));
-      gibbsite = rw (c .before .wide164 .ensures .0) (b .gibbsite);
-      level = rw (c .wide165 .ensures .0) (b .ceiling);
-    }
+    let t = term-bounds (at .before .args .s) (at .before .pre .0) in
+    omega (arith, t .supply-le, t .A-le, at .bases-at .ensures .0, at .bases-at .ensures .1, c .before .critical-leaching .ensures .1)
+
+add-result : tie.Need-add-result
+add-result c = omega (arith, at-most c)
 
 returns : tie.Need-returns
 returns c =
-    let at = c .before .before .before .before .before .before in
-    let s = at .before .before .before in (
+    let at = c .before .before .before .before .before in (
       rw (
-        c .acid-load .ensures .0,
-        maxS-plain (s .args .s),
-        weathered (at .before .before),
-        available at,
-        s .pre .1,
-        c .before .before .before .before .before .wide16 .ensures .0,
-        c .before .before .before .before .wide162 .ensures .0,
-        c .before .before .before .wide163 .ensures .0,
-        c .before .before .wide164 .ensures .0,
-        c .before .wide165 .ensures .0,
+        maxS-plain (at .before .args .s),
+        c .before .critical-leaching .ensures .0,
+        at .bases-at .ensures .0,
+        at .bases-at .ensures .1,
+        c .before .before .before .before .wide16 .ensures .0,
+        c .before .before .before .wide162 .ensures .0,
+        c .before .before .wide163 .ensures .0,
       ),
-      c .acid-load .ensures .1,
+      at-most c,
     )
 
 pub max-s-of-spec : {M : Type 1} → statement M
 max-s-of-spec =
     tie.close
     (tie.spec
-    weathering-of-requires
-    wide8-requires
-    available-of-requires
+    bases-at-requires
     wide16-requires
     wide16-requires-2
     wide16-requires-3
-    wide16-requires-4
-    wide16-requires-5
-    acid-load-requires
+    critical-leaching-requires
+    add-result
     returns)

@@ -1,8 +1,8 @@
 use mathlib.Core.Path.{_≡_, sym, _∙_}
 use Rattle.site.specs.declared.Checked.the-variants.{Passed}
 use Rattle.site.specs.ByCheck.{answerIf}
-use Rattle.loads.specs.Hydrogen.{levelRule, levelAnswer}
-use Rattle.loads.proofs.LevelLaws.{level-passed, level-promise}
+use Rattle.loads.specs.Search.{levelRule, levelAnswer}
+use Rattle.loads.proofs.LevelAnswers.{level-passed, level-promise}
 use borrow.Author.Needs.{needs}
 use Rattle.loads.proofs.hydrogen.greatest_level.Statement.{statement}
 use Rattle.loads.proofs.hydrogen.greatest_level.Tie as tie
@@ -28,8 +28,8 @@ wide16-requires-2 c κs = search needs
 wide16-requires-3 : tie.Need-wide16-requires-3
 wide16-requires-3 c κs = search needs
 
-level-requires : tie.Need-level-requires
-level-requires c κs =
+search-requires : tie.Need-search-requires
+search-requires c κs =
     let at = c .before .before .before in
     let a = at .before .before .before .args in
     rw (c .before .before .wide16 .ensures .0, c .before .wide162 .ensures .0, c .wide163 .ensures .0) (level-passed (a .q) (a .k) (a .ceiling) (passed at))
@@ -46,7 +46,7 @@ returns-2 c =
     let at = c .before .before .before .before in
     let a = at .before .before .before .args in
     level-promise (a .q) (a .k) (a .limit) (a .ceiling) _
-    (rw (passed at, c .level .ensures, c .before .before .before .wide16 .ensures .0, c .before .before .wide162 .ensures .0, c .before .wide163 .ensures .0))
+    (rw (passed at, c .search .ensures, c .before .before .before .wide16 .ensures .0, c .before .before .wide162 .ensures .0, c .before .wide163 .ensures .0))
 
 pub greatest-level-spec : {M : Type 1} → statement M
 greatest-level-spec =
@@ -58,6 +58,6 @@ greatest-level-spec =
     wide16-requires
     wide16-requires-2
     wide16-requires-3
-    level-requires
+    search-requires
     returns
     returns-2)

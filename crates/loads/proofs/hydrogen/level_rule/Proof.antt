@@ -3,7 +3,7 @@ use Rattle.site.specs.declared.Checked.the-variants.{Passed}
 use Rattle.site.specs.Refusal.{andThen}
 use Rattle.site.specs.Ranges.{percolationRange}
 use Rattle.site.specs.Values.{between}
-use Rattle.loads.specs.Hydrogen.{levelRule}
+use Rattle.loads.specs.Search.{levelRule}
 use borrow.Author.Needs.{needs}
 use Rattle.loads.proofs.hydrogen.level_rule.Statement.{statement}
 use Rattle.loads.proofs.hydrogen.level_rule.Tie as tie

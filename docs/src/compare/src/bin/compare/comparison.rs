@@ -1,7 +1,7 @@
 //! One answer held against the other.
 
 use crate::tally::{Source, Tally, PAGE};
-use compare::interface::{Call, CHECK, JUDGE, LIST, LOADS, PAGES, REPORT, REWRITE, SAMPLE};
+use compare::interface::{Call, CHECK, JUDGE, LEVEL, LIST, LOADS, PAGES, REPORT, REWRITE, SAMPLE};
 use compare::random::Random;
 use forest::Site;
 use std::fmt::LowerHex;
@@ -60,7 +60,7 @@ impl Comparison {
         }
     }
 
-    /// A site value through `forest_check`, `forest_loads` and `forest_judge`.
+    /// A site value through `forest_check`, `forest_loads`, `forest_level` and `forest_judge`.
     pub fn site(&mut self, random: &mut Random, value: &[u8]) {
         let result = self.call(random, &CHECK, [value], 0);
         self.tally.answer(Source::Check, result);
@@ -68,6 +68,14 @@ impl Comparison {
         let length = random.pick(&[4, 4, 4, 5, 8, 3, 1, 0]);
         let result = self.call(random, &LOADS, [value], length);
         self.tally.answer(Source::Loads, result);
+
+        let length = random.pick(&[2, 2, 2, 3, 8, 1, 1, 0]);
+        let result = self.call(random, &LEVEL, [value], length);
+        self.tally.answer(Source::Level, result);
+        let mut numbers = [0; 2];
+        if (LEVEL.reference)([value], &mut numbers) == 2 {
+            self.tally.compared(numbers[1] as usize);
+        }
 
         let length = random.pick(&[8, 8, 8, 9, 12, 7, 4, 0]);
         let result = self.call(random, &JUDGE, [value], length);

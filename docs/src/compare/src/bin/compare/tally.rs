@@ -13,19 +13,21 @@ pub enum Source {
     Rewrite,
     Check,
     Loads,
+    Level,
     Judge,
     Sample,
     Program,
 }
 
 /// The sources, and the rules that each can refuse by.
-const SOURCES: [(&str, RangeInclusive<usize>); 9] = [
+const SOURCES: [(&str, RangeInclusive<usize>); 10] = [
     ("list", 1..=11),
     ("pages", 1..=11),
     ("report", 1..=11),
     ("rewrite", 1..=11),
     ("check", 7..=10),
     ("loads", 7..=11),
+    ("level", 7..=11),
     ("judge", 7..=11),
     ("sample", 7..=14),
     ("program", 1..=10),
@@ -49,6 +51,10 @@ const LINES: usize = 1;
 const PAGE_LINES: usize = 2;
 const SAMPLE: usize = 3;
 
+/// How many levels can be compared. No ceiling below 33 is ever forbidden, since al(32) is 0 at every site; from 33 on the
+/// search takes 6 levels or more.
+const COMPARED: [usize; 10] = [1, 6, 7, 8, 9, 10, 11, 12, 13, 14];
+
 /// The bytes of a full page.
 pub const PAGE: usize = 60 * 65;
 /// The bytes of a full page's records at most: a fault from here on is one after a page.
@@ -57,7 +63,7 @@ const PAGE_RECORDS: usize = 59 * 96;
 #[derive(Default)]
 pub struct Tally {
     /// By source, then by rule; 0 stands for success.
-    answers: [[u64; 15]; 9],
+    answers: [[u64; 15]; 10],
     /// By judge, by lines of listings, by lines of pages and by sample, as the next three.
     regions: [[u64; 5]; 4],
     within: [u64; 4],
@@ -78,6 +84,8 @@ pub struct Tally {
     species: [u64; 9],
     hydrogen_bound: u64,
     aluminium_bound: u64,
+    /// By how many levels were compared.
+    compared: [u64; 15],
     sampled: Sampled,
 }
 
@@ -160,6 +168,11 @@ impl Tally {
         }
     }
 
+    /// A site at which so many levels were compared.
+    pub fn compared(&mut self, levels: usize) {
+        self.compared[levels] += 1;
+    }
+
     /// A site value with its sampler's months: the result in a buffer with room, and the numbers there.
     pub fn sampled(&mut self, value: &[u8], months: &[u8], result: u64, numbers: &[u64; 10]) {
         if result == 10 {
@@ -174,7 +187,7 @@ impl Tally {
     /// Prints the counts and returns how many kinds are due and never occurred.
     pub fn print(&self, with_program: bool) -> u64 {
         let mut absent = 0;
-        let sources = &SOURCES[..if with_program { 9 } else { 8 }];
+        let sources = &SOURCES[..if with_program { 10 } else { 9 }];
 
         print!("{:<24}", "");
         sources.iter().for_each(|(name, _)| print!("{name:>10}"));
@@ -223,6 +236,9 @@ impl Tally {
         kinds.push((named("hydrogen-bound"), self.hydrogen_bound));
         kinds.push((named("aluminium-bound"), self.aluminium_bound));
         absent += column("judge", kinds);
+
+        let compared = COMPARED.map(|levels| (format!("compared: {levels}"), self.compared[levels]));
+        absent += column("level", compared.to_vec());
 
         let borders = PAGE_BORDERS.map(|count| format!("records: {count}"));
         let mut kinds: Vec<(String, u64)> = borders.into_iter().zip(self.page_borders).collect();

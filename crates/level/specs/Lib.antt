@@ -1,0 +1,2 @@
+pub mod SiteLevel
+pub mod Cases
