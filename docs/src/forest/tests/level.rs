@@ -80,7 +80,8 @@ fn every_level_below_every_ceiling() {
 
 #[test]
 fn a_bad_site_is_refused_at_0() {
-    let refused = |site: Site| level(&site).map_err(|Refusal { rule, offset }| (rule as u8, offset));
+    let refused =
+        |site: Site| level(&site).map_err(|Refusal { rule, offset }| (rule as u8, offset));
     assert_eq!(refused(a1_with_ceiling(0)), Err((8, 0)));
     assert_eq!(refused(a1_with_ceiling(5001)), Err((8, 0)));
     let no_stand = Site {

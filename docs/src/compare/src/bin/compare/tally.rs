@@ -237,7 +237,8 @@ impl Tally {
         kinds.push((named("aluminium-bound"), self.aluminium_bound));
         absent += column("judge", kinds);
 
-        let compared = COMPARED.map(|levels| (format!("compared: {levels}"), self.compared[levels]));
+        let compared =
+            COMPARED.map(|levels| (format!("compared: {levels}"), self.compared[levels]));
         absent += column("level", compared.to_vec());
 
         let borders = PAGE_BORDERS.map(|count| format!("records: {count}"));
