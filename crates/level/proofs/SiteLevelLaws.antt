@@ -1,5 +1,4 @@
 -- The search at a site: a site that passes the check passes that of the search; what an answer says of its site; all that the call promises.
-use Prim.Native.Nat.{ℕ}
 use mathlib.Core.Path.{_≡_, refl, sym, _∙_, ap}
 use mathlib.Core.List.{[], _∷_}
 use native.Mathlib.Omega.{arith}

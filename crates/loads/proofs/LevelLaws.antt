@@ -1,5 +1,5 @@
 -- The hydrogen level: hydrogen and aluminium grow with it, and the level of the definition is allowed and the greatest allowed.
-use Prim.Native.Nat.{ℕ, zero, suc, _*_, _^_, _≤_, _<_}
+use Prim.Native.Nat.{ℕ, suc, _*_, _^_, _≤_, _<_}
 use mathlib.Core.Bool.{true}
 use mathlib.Core.Path.{_≡_}
 use native.Mathlib.Omega.{arith}

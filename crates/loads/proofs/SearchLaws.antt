@@ -2,16 +2,14 @@
 use Prim.Native.Nat.{ℕ, zero, suc, _+_, _-_, _/_, _^_, _≤_, _<_}
 use mathlib.Core.Bool.{Bool, true, false}
 use mathlib.Core.Logic.{⊎-elim}
-use mathlib.Core.Path.{_≡_, refl, sym, _∙_, ap}
+use mathlib.Core.Path.{_≡_, refl, _∙_, ap}
 use mathlib.Core.List.{List, [], _∷_}
 use native.Mathlib.Omega.{arith}
 use native.Mathlib.Nat.{two-pow-succ}
-use lib.Dec.{leb}
 use lib.ListN.{length}
 use borrow.Author.Tests.{le-leb, lt-leb}
 use Rattle.site.specs.Choice.{pick}
 use Rattle.site.proofs.Tests.{le-or-lt}
-use Rattle.loads.specs.declared.Found.{Found}
 use Rattle.loads.specs.Hydrogen.{alOf, withinLimit, levelOf}
 use Rattle.loads.specs.LoadsConditions.{Levels}
 use Rattle.loads.specs.Search.{meansIn, means, comparedOf, foundOf, FewCompared}

@@ -36,15 +36,19 @@ module _ (s : Site) where
   unfolding baseDemand up
   demand-is = refl
 
+  pub uptake-is : baseUptake s ≡ baseUptakeOf (baseDemand s) ((s .«base_deposition») + availableWeathering s) (s .percolation)
+  unfolding baseUptake
+  uptake-is = refl
+
   baseUptake-is : baseUptake s ≡ min (baseDemand s) ((s .«base_deposition») + availableWeathering s - up (s .percolation) 10)
   unfolding baseUptake baseUptakeOf
   baseUptake-is = refl
 
-  supply-is : termsOf s .supply ≡ (s .«base_deposition») + weathering s - baseUptake s
+  pub supply-is : termsOf s .supply ≡ (s .«base_deposition») + weathering s - baseUptake s
   unfolding termsOf baseSupply
   supply-is = refl
 
-  limit-is : termsOf s .A ≡ limitOf ((s .«base_deposition») + availableWeathering s - baseUptake s) (s .ratio)
+  pub limit-is : termsOf s .A ≡ limitOf ((s .«base_deposition») + availableWeathering s - baseUptake s) (s .ratio)
   unfolding termsOf aluminiumLimit
   limit-is = refl
 
@@ -52,19 +56,7 @@ module _ (s : Site) where
   unfolding termsOf leaching
   leaching-is = refl
 
-  -- the base supply, A, CLmaxS and CLminN by plain numbers
-  pub supply-plain :
-      termsOf s .supply
-      ≡ (s .«base_deposition») + weathering s - baseUptakeOf (baseDemand s) ((s .«base_deposition») + availableWeathering s) (s .percolation)
-  unfolding termsOf baseSupply baseUptake
-  supply-plain = refl
-
-  pub limit-plain :
-      termsOf s .A
-      ≡ limitOf ((s .«base_deposition») + availableWeathering s - baseUptakeOf (baseDemand s) ((s .«base_deposition») + availableWeathering s) (s .percolation)) (s .ratio)
-  unfolding termsOf aluminiumLimit baseUptake
-  limit-plain = refl
-
+  -- CLmaxS and CLminN by plain numbers
   pub maxS-plain :
       let h = levelOf (s .percolation) (s .gibbsite) (termsOf s .A) (s .ceiling) in
       maxS (termsOf s) ≡ termsOf s .supply + (hydrogenOf (s .percolation) h + alOf (s .percolation) (s .gibbsite) h)

@@ -4,7 +4,7 @@ use mathlib.Core.Path.{_≡_, sym, _∙_}
 use native.Mathlib.Omega.{arith}
 use Rattle.loads.specs.Weathering.{weathering, availableWeathering}
 use Rattle.loads.specs.Uptake.{baseDemand}
-use Rattle.loads.proofs.SiteTermLaws.{weathering-is, available-is, demand-is, supply-plain, limit-plain, part-bounds}
+use Rattle.loads.proofs.SiteTermLaws.{weathering-is, available-is, demand-is, uptake-is, supply-is, limit-is, part-bounds}
 use borrow.Author.Needs.{needs}
 use Rattle.loads.proofs.bases.bases_at.Statement.{statement}
 use Rattle.loads.proofs.bases.bases_at.Tie as tie
@@ -63,7 +63,8 @@ returns c =
     let demand : (s .args .sum + 9999999) / 10000000 ≡ baseDemand (s .args .s) = rw (demand-is (s .args .s), s .pre .1 .summed) in (
       rw (
         c .bases-left .ensures .supplied,
-        supply-plain (s .args .s),
+        supply-is (s .args .s),
+        uptake-is (s .args .s),
         demand,
         weathered (at .before .before),
         available at,
@@ -72,7 +73,8 @@ returns c =
       ),
       rw (
         c .bases-left .ensures .limited,
-        limit-plain (s .args .s),
+        limit-is (s .args .s),
+        uptake-is (s .args .s),
         demand,
         available at,
         c .before .before .before .wide16 .ensures .0,

@@ -1,4 +1,3 @@
-use mathlib.Core.Path.{refl}
 use borrow.Author.Needs.{needs}
 use Rattle.loads.proofs.bases.bases_left.Statement.{statement}
 use Rattle.loads.proofs.bases.bases_left.Tie as tie
