@@ -15,7 +15,7 @@ use Rattle.site.specs.declared.Site.{Site}
 use Rattle.site.proofs.Passing.{both-passed}
 use Rattle.loads.specs.SiteTerms.{termsOf}
 use Rattle.loads.specs.CriticalLoads.{loadNumbers}
-use Rattle.loads.specs.Search.{FewAt}
+use Rattle.loads.specs.Search.{levelNumbers, FewAt}
 use Rattle.level.proofs.SiteLevelLaws.{few-at}
 use Rattle.judgement.specs.declared.Verdict.{Verdict}
 use Rattle.judgement.specs.declared.Verdict.the-variants.{Within, Over}
@@ -31,7 +31,7 @@ use Rattle.output.proofs.WritingLaws.{in-front}
 use Rattle.output.proofs.OutputLaws.{output-broken, output-short, output-whole, output-passed}
 use Rattle.exports.specs.Codes.{codeBase, writtenCode, Decodes}
 use Rattle.exports.proofs.CodeLaws.{count-below, by-check-decodes}
-use Rattle.exports.specs.Layout.{siteIn, valueCheck, valueAnswer, siteLoadNumbers, levelNumbers, markNumber, verdictMarked, judgementNumbers}
+use Rattle.exports.specs.Layout.{siteIn, valueCheck, valueAnswer, siteLoadNumbers, markNumber, verdictMarked, judgementNumbers}
 
 module _ (b : List ℕ) where
   pub wrong-length : (length b ≡ 50 → ⊥) → valueCheck b ≡ Broken BadLength
@@ -136,8 +136,8 @@ module _ (b old new : List ℕ) where
 
   -- the second number says how many levels were compared
   pub with-count : {r : ℕ} {A : Type 0}
-      → (r ≡ writtenCode (valueAnswer b 2 (length old))) × ((new ≡ heldAfter (outputRule (valueCheck b) 2 (length old)) (levelNumbers (siteIn b)) old) × A)
+      → (r ≡ writtenCode (valueAnswer b 2 (length old))) × ((new ≡ heldAfter (outputRule (valueCheck b) 2 (length old)) (levelNumbers (termsOf (siteIn b))) old) × A)
       → (r ≡ writtenCode (valueAnswer b 2 (length old)))
-      × ((new ≡ heldAfter (outputRule (valueCheck b) 2 (length old)) (levelNumbers (siteIn b)) old) × (A × (r ≡ 2 → FewAt (termsOf (siteIn b)) (getD new 1 0))))
+      × ((new ≡ heldAfter (outputRule (valueCheck b) 2 (length old)) (levelNumbers (termsOf (siteIn b))) old) × (A × (r ≡ 2 → FewAt (termsOf (siteIn b)) (getD new 1 0))))
   unfolding levelNumbers
-  with-count = said b 2 (omega arith) (levelNumbers (siteIn b)) old new (λ p e. rw e (few-at (siteIn b) (value-passes b p)))
+  with-count = said b 2 (omega arith) (levelNumbers (termsOf (siteIn b))) old new (λ p e. rw e (few-at (siteIn b) (value-passes b p)))

@@ -1,5 +1,5 @@
 -- The calls on a site value: its 50 bytes, in the order of the site's values, numbers of two bytes with the high byte first; its check; and
--- the numbers of its loads, of its hydrogen level and of its judgement.
+-- the numbers of its loads and of its judgement.
 use Prim.Native.Nat.{ℕ}
 use mathlib.Core.List.{List, [], _∷_, _++_}
 use lib.Dec.{eqb}
@@ -16,8 +16,6 @@ use Rattle.site.specs.declared.Checked.the-variants.{Passed, Broken}
 use Rattle.output.specs.declared.Written.{Written}
 use Rattle.output.specs.Output.{outputRule, writeAnswer}
 use Rattle.loads.specs.SiteTerms.{termsOf}
-use Rattle.loads.specs.Hydrogen.{greatestLevel}
-use Rattle.loads.specs.Search.{levelsCompared}
 use Rattle.loads.specs.CriticalLoads.{loadsOf, loadNumbers}
 use Rattle.judgement.specs.declared.Judged.{Judged}
 use Rattle.judgement.specs.declared.Verdict.{Verdict}
@@ -57,10 +55,6 @@ valueAnswer b needed room = writeAnswer (outputRule (valueCheck b) needed room) 
 
 unfoldable pub siteLoadNumbers : Site → List ℕ
 siteLoadNumbers s = loadNumbers (loadsOf (termsOf s))
-
--- the greatest allowed hydrogen level, and how many levels were compared
-unfoldable pub levelNumbers : Site → List ℕ
-levelNumbers s = greatestLevel (termsOf s) ∷ length (levelsCompared (termsOf s)) ∷ []
 
 -- 0 within, 1 over
 unfoldable pub markNumber : Verdict → ℕ

@@ -3,12 +3,12 @@ ghost use mathlib.Core.Path.{_≡_};
 ghost use Prim.Native.Nat.{_+_, _≤_};
 ghost use lib.ListN.{length, getD};
 ghost use Rattle.loads.specs.SiteTerms.{termsOf};
-ghost use Rattle.loads.specs.Search.{FewAt};
+ghost use Rattle.loads.specs.Search.{levelNumbers, FewAt};
 ghost use Rattle.judgement.specs.Balance.{MarkSays};
 ghost use Rattle.output.specs.Output.{writeAnswer, outputRule, heldAfter};
 ghost use Rattle.output.specs.Writing.{Wrote};
 ghost use Rattle.exports.specs.Codes.{writtenCode, Decodes};
-ghost use Rattle.exports.specs.Layout.{siteIn, valueCheck, valueAnswer, siteLoadNumbers, levelNumbers, judgedNumbers, judgementNumbers, verdictMarked};
+ghost use Rattle.exports.specs.Layout.{siteIn, valueCheck, valueAnswer, siteLoadNumbers, judgedNumbers, judgementNumbers, verdictMarked};
 use crate::codes::refusal_code;
 use crate::layout::site_in;
 use judgement::Judged;
@@ -73,7 +73,7 @@ pub extern "C" fn forest_loads(site: &[u8], out: &mut [u64]) -> u64
 #[no_mangle]
 pub extern "C" fn forest_level(site: &[u8], out: &mut [u64]) -> u64
     ensures answer { λ r. ⌜ r ≡ writtenCode (valueAnswer (now (site .entry)) 2 (length (now (out .entry)))) ⌝ }
-    ensures buffer { λ _. ⌜ now (out .exit) ≡ heldAfter (outputRule (valueCheck (now (site .entry))) 2 (length (now (out .entry)))) (levelNumbers (siteIn (now (site .entry)))) (now (out .entry)) ⌝ }
+    ensures buffer { λ _. ⌜ now (out .exit) ≡ heldAfter (outputRule (valueCheck (now (site .entry))) 2 (length (now (out .entry)))) (levelNumbers (termsOf (siteIn (now (site .entry))))) (now (out .entry)) ⌝ }
     ensures decoded { λ r. ⌜ Decodes (valueAnswer (now (site .entry)) 2 (length (now (out .entry)))) r ⌝ }
     ensures count { λ r. ⌜ (r ≡ 2 → FewAt (termsOf (siteIn (now (site .entry)))) (getD (now (out .exit)) 1 0)) ⌝ }
 {

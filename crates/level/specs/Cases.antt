@@ -1,8 +1,9 @@
 -- Site A1 of document 01 with four hydrogen ceilings: the levels that are compared, in order, and the level found. A computed proof that the definitions give
--- them, and that each site passes the check. One takes 14 levels.
+-- them, and that each site passes the check.
 use Prim.Native.Nat.{ℕ}
 use mathlib.Core.Path.{_≡_, refl}
 use mathlib.Core.List.{List, [], _∷_, map}
+use lib.ListN.{length}
 use Rattle.site.specs.declared.Site.{Site}
 use Rattle.site.specs.declared.Checked.the-variants.{Passed}
 use Rattle.site.specs.ExampleSite.{a1}
@@ -12,7 +13,7 @@ use Rattle.site.specs.Values.{countRule, itemCount, valueRule, allOf, nameByte,
 use Rattle.loads.specs.Rounding.{up}
 use Rattle.loads.specs.Texture.{textureOf}
 use Rattle.loads.specs.Weathering.{classOf, weatheringOf, weathering, availableWeathering}
-use Rattle.loads.specs.Uptake.{content, nitrogenIn, baseIn, weightOf, sumOver, standSum, baseDemand, baseUptakeOf, baseUptake}
+use Rattle.loads.specs.Uptake.{content, baseIn, weightOf, sumOver, standSum, baseDemand, baseUptakeOf, baseUptake}
 use Rattle.loads.specs.Hydrogen.{alOf, greatestWhere, levelOf, greatestLevel}
 use Rattle.loads.specs.Supply.{aluminiumLimit}
 use Rattle.loads.specs.SiteTerms.{termsOf}
@@ -59,9 +60,14 @@ abbrev computed : (ceiling : ℕ) → LevelCase
 computed h = let t = termsOf (a1With h) in record { ceiling = h; compared = levelsCompared t; level = greatestLevel t }
 
 agrees : map (λ (c : LevelCase). computed (c .ceiling)) cases ≡ cases
-unfolding cases termsOf up textureOf classOf weatheringOf weathering availableWeathering content nitrogenIn baseIn weightOf sumOver standSum baseDemand baseUptakeOf baseUptake aluminiumLimit alOf greatestWhere levelOf greatestLevel meansIn means comparedOf levelsCompared
+unfolding cases termsOf up textureOf classOf weatheringOf weathering availableWeathering content baseIn weightOf sumOver standSum baseDemand baseUptakeOf baseUptake aluminiumLimit alOf greatestWhere levelOf greatestLevel meansIn means comparedOf levelsCompared
 agrees = refl
 
 passes : map (λ (c : LevelCase). siteRule (a1With (c .ceiling))) cases ≡ Passed ∷ Passed ∷ Passed ∷ Passed ∷ []
 unfolding cases siteRule fieldsRule andThen countRule itemCount valueRule allOf nameByte between standRule entryRanged risingFrom sharesOf
 passes = refl
+
+-- so some site takes 14
+fourteen : (siteRule (a1With 5000) ≡ Passed) × (length (levelsCompared (termsOf (a1With 5000))) ≡ 14)
+unfolding siteRule fieldsRule andThen countRule itemCount valueRule allOf nameByte between standRule entryRanged risingFrom sharesOf termsOf up textureOf classOf weatheringOf weathering availableWeathering content baseIn weightOf sumOver standSum baseDemand baseUptakeOf baseUptake aluminiumLimit alOf greatestWhere levelOf greatestLevel meansIn means comparedOf levelsCompared
+fourteen = (refl, refl)

@@ -5,7 +5,7 @@ use Rattle.site.specs.ByCheck.{answerIf}
 use Rattle.loads.specs.declared.LevelAnswer.{LevelAnswer}
 use Rattle.loads.specs.declared.LevelAnswer.the-variants.{Given, Refused}
 use Rattle.loads.specs.SiteTerms.{termsOf}
-use Rattle.loads.specs.Search.{foundAt}
+use Rattle.loads.specs.Search.{searchedAt}
 
 unfoldable pub siteLevel : Site → LevelAnswer
-siteLevel s = answerIf Given Refused (siteRule s) (foundAt (termsOf s))
+siteLevel s = answerIf Given Refused (siteRule s) (searchedAt (termsOf s))

@@ -12,7 +12,7 @@ use Rattle.site.specs.Choice.{pick}
 use Rattle.site.proofs.Tests.{le-or-lt}
 use Rattle.loads.specs.Hydrogen.{alOf, withinLimit, levelOf}
 use Rattle.loads.specs.LoadsConditions.{Levels}
-use Rattle.loads.specs.Search.{meansIn, means, comparedOf, foundOf, FewCompared}
+use Rattle.loads.specs.Search.{meansIn, means, comparedOf, searchedOf, FewCompared}
 use Rattle.loads.proofs.LevelLaws.{alOf-zero, alOf-one, level-is}
 
 -- ---- the means between two levels
@@ -137,7 +137,7 @@ module _ (q k limit ceiling : ℕ) where
 
 -- ---- the search between low, which is allowed, and high, which is not, after so many levels
 
-pub record Search (q k limit ceiling low high compared : ℕ) : Type 0 where
+pub record SearchState (q k limit ceiling low high compared : ℕ) : Type 0 where
   pub order : low < high
   pub under : high ≤ ceiling
   pub kept : alOf q k low ≤ limit
@@ -145,7 +145,7 @@ pub record Search (q k limit ceiling low high compared : ℕ) : Type 0 where
   pub count : compared + length (means (withinLimit q k limit) low high) ≡ length (comparedOf q k limit ceiling)
 
 module _ {q k limit ceiling : ℕ} where
-  pub search-starts : Levels q k ceiling → limit < alOf q k ceiling → Search q k limit ceiling 0 ceiling 1
+  pub search-starts : Levels q k ceiling → limit < alOf q k ceiling → SearchState q k limit ceiling 0 ceiling 1
   search-starts b above = record {
     order = omega (arith, above-one q k limit ceiling b above);
     under = omega arith;
@@ -154,8 +154,8 @@ module _ {q k limit ceiling : ℕ} where
     count = rw (compared-below q k limit ceiling above) (omega arith);
   }
 
-  module _ {low high n : ℕ} (s : Search q k limit ceiling low high n) where
-    pub search-raises : low + 1 < high → alOf q k ((low + high) / 2) ≤ limit → Search q k limit ceiling ((low + high) / 2) high (n + 1)
+  module _ {low high n : ℕ} (s : SearchState q k limit ceiling low high n) where
+    pub search-raises : low + 1 < high → alOf q k ((low + high) / 2) ≤ limit → SearchState q k limit ceiling ((low + high) / 2) high (n + 1)
     search-raises wide h = record {
       order = omega (arith, wide);
       under = s .under;
@@ -166,7 +166,7 @@ module _ {q k limit ceiling : ℕ} where
           (arith, s .count, ap length (means-raised (withinLimit q k limit) low high wide (le-leb (alOf q k ((low + high) / 2)) limit h)));
     }
 
-    pub search-lowers : low + 1 < high → limit < alOf q k ((low + high) / 2) → Search q k limit ceiling low ((low + high) / 2) (n + 1)
+    pub search-lowers : low + 1 < high → limit < alOf q k ((low + high) / 2) → SearchState q k limit ceiling low ((low + high) / 2) (n + 1)
     search-lowers wide h = record {
       order = omega (arith, wide);
       under = omega (arith, s .under, wide);
@@ -181,15 +181,15 @@ module _ {q k limit ceiling : ℕ} where
     pub search-fits : Levels q k ceiling → n ≤ 14
     search-fits b = omega (arith, s .count, few-compared q k limit ceiling b .most)
 
-    pub search-ends : high ≤ low + 1 → record { level = low; compared = n } ≡ foundOf q k limit ceiling
-    unfolding foundOf
+    pub search-ends : high ≤ low + 1 → record { level = low; compared = n } ≡ searchedOf q k limit ceiling
+    unfolding searchedOf
     search-ends near =
         let up : high ≡ suc low = omega (arith, s .order, near) in
         let found : levelOf q k limit ceiling ≡ low = level-is q k limit ceiling low (omega (arith, s .order, s .under)) (s .kept) (λ h. rw up at (s .over)) in
         let done : n ≡ length (comparedOf q k limit ceiling) = omega (arith, s .count, ap length (means-end (withinLimit q k limit) low high near)) in
         rw (found, ← done)
 
-pub search-at-once : (q k limit ceiling : ℕ) → alOf q k ceiling ≤ limit → record { level = ceiling; compared = 1 } ≡ foundOf q k limit ceiling
-unfolding foundOf
+pub search-at-once : (q k limit ceiling : ℕ) → alOf q k ceiling ≤ limit → record { level = ceiling; compared = 1 } ≡ searchedOf q k limit ceiling
+unfolding searchedOf
 search-at-once q k limit ceiling h =
     rw (level-is q k limit ceiling ceiling (omega arith) h (λ l. absurd (omega arith)), compared-ceiling q k limit ceiling h)

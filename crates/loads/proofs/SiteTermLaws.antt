@@ -40,9 +40,9 @@ module _ (s : Site) where
   unfolding baseUptake
   uptake-is = refl
 
-  baseUptake-is : baseUptake s ≡ min (baseDemand s) ((s .«base_deposition») + availableWeathering s - up (s .percolation) 10)
+  uptake-min : baseUptake s ≡ min (baseDemand s) ((s .«base_deposition») + availableWeathering s - up (s .percolation) 10)
   unfolding baseUptake baseUptakeOf
-  baseUptake-is = refl
+  uptake-min = refl
 
   pub supply-is : termsOf s .supply ≡ (s .«base_deposition») + weathering s - baseUptake s
   unfolding termsOf baseSupply
@@ -95,8 +95,8 @@ module _ (s : Site) (b : Bounds s) where
         weathering-le = weathered;
         available-part = available-within;
         available-le = omega (arith, available-is s);
-        uptake-part = omega (arith, baseUptake-is s);
-        supply-part = omega (arith, baseUptake-is s, available-within);
+        uptake-part = omega (arith, uptake-min s);
+        supply-part = omega (arith, uptake-min s, available-within);
       }
 
   limited : termsOf s .A ≤ mostA

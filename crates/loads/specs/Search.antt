@@ -12,14 +12,14 @@ use Rattle.site.specs.ByCheck.{answerIf}
 use Rattle.site.specs.Ranges.{percolationRange, gibbsiteRange, ceilingRange}
 use Rattle.site.specs.Values.{between}
 use Rattle.site.specs.declared.Checked.{Checked}
-use Rattle.loads.specs.declared.Found.{Found}
+use Rattle.loads.specs.declared.Searched.{Searched}
 use Rattle.loads.specs.declared.LevelAnswer.{LevelAnswer}
 use Rattle.loads.specs.declared.LevelAnswer.the-variants.{Given, Refused}
 use Rattle.loads.specs.Terms.{Terms}
-use Rattle.loads.specs.Hydrogen.{alOf, withinLimit, levelOf}
+use Rattle.loads.specs.Hydrogen.{alOf, withinLimit, levelOf, greatestLevel}
 
--- Always the mean, down, of low, the greatest level known allowed, and high, the least known not, which then takes the place of one of them, until these
--- are neighbours. Each step brings them nearer, so as many steps as they lie apart are enough.
+-- Always the mean, down, of low, the greatest level known allowed, and high, the least known not, until these are neighbours. The mean takes the place of
+-- low where it is allowed, else of high. Each step brings the two nearer, so as many steps as they lie apart are enough.
 unfoldable pub meansIn : (steps : ℕ) → (ℕ → Bool) → (low high : ℕ) → List ℕ
 meansIn zero allowed low high = []
 meansIn (suc n) allowed low high =
@@ -38,8 +38,8 @@ unfoldable pub comparedOf : (q k limit ceiling : ℕ) → List ℕ
 comparedOf q k limit ceiling = ceiling ∷ pick (withinLimit q k limit ceiling) [] (means (withinLimit q k limit) 0 ceiling)
 
 -- the greatest allowed level, and how many levels were compared
-unfoldable pub foundOf : (q k limit ceiling : ℕ) → Found
-foundOf q k limit ceiling = record { level = levelOf q k limit ceiling; compared = length (comparedOf q k limit ceiling) }
+unfoldable pub searchedOf : (q k limit ceiling : ℕ) → Searched
+searchedOf q k limit ceiling = record { level = levelOf q k limit ceiling; compared = length (comparedOf q k limit ceiling) }
 
 -- how many they are: 1 exactly where the ceiling is allowed, and never more than 14
 pub record FewCompared (q k limit ceiling compared : ℕ) : Type 0 where
@@ -51,23 +51,28 @@ unfoldable pub levelRule : (q k ceiling : ℕ) → Checked
 levelRule q k ceiling = andThen (between percolationRange q) (andThen (between gibbsiteRange k) (between ceilingRange ceiling))
 
 unfoldable pub levelAnswer : (q k limit ceiling : ℕ) → LevelAnswer
-levelAnswer q k limit ceiling = answerIf Given Refused (levelRule q k ceiling) (foundOf q k limit ceiling)
+levelAnswer q k limit ceiling = answerIf Given Refused (levelRule q k ceiling) (searchedOf q k limit ceiling)
 
 -- the level, and how many levels were compared
-unfoldable pub foundNumbers : Found → List ℕ
-foundNumbers f = f .level ∷ f .compared ∷ []
+unfoldable pub searchedNumbers : Searched → List ℕ
+searchedNumbers f = f .level ∷ f .compared ∷ []
 
 -- the values of each case: those two numbers, or the refusal's number and offset
 unfoldable pub levelValues : LevelAnswer → List ℕ
-levelValues (Given f) = foundNumbers f
+levelValues (Given f) = searchedNumbers f
 levelValues (Refused r) = refusalValues r
 
--- the same with the terms of a site
+-- ---- with the terms of a site
+
 unfoldable pub levelsCompared : Terms → List ℕ
 levelsCompared t = comparedOf (t .Q) (t .K) (t .A) (t .H)
 
-unfoldable pub foundAt : Terms → Found
-foundAt t = foundOf (t .Q) (t .K) (t .A) (t .H)
+unfoldable pub searchedAt : Terms → Searched
+searchedAt t = searchedOf (t .Q) (t .K) (t .A) (t .H)
+
+-- the greatest allowed level, and how many levels are compared
+unfoldable pub levelNumbers : Terms → List ℕ
+levelNumbers t = greatestLevel t ∷ length (levelsCompared t) ∷ []
 
 abbrev pub FewAt : Terms → (compared : ℕ) → Type 0
 FewAt t = FewCompared (t .Q) (t .K) (t .A) (t .H)

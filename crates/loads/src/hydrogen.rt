@@ -6,10 +6,10 @@ ghost use lib.ListN.{length};
 ghost use Rattle.site.specs.Refusal.{valuesIf};
 ghost use Rattle.loads.specs.MostTerms.{mostHydrogen};
 ghost use Rattle.loads.specs.Hydrogen.{hydrogenOf, alOf, levelOf};
-ghost use Rattle.loads.specs.Search.{comparedOf, foundOf, FewCompared, levelRule, levelAnswer, levelValues};
+ghost use Rattle.loads.specs.Search.{comparedOf, searchedOf, FewCompared, levelRule, levelAnswer, levelValues};
 ghost use Rattle.loads.specs.LoadsConditions.{Levels};
-use crate::Found;
 use crate::LevelAnswer;
+use crate::Searched;
 use numbers::wide16;
 use site::Checked;
 use site::ceiling_rule;
@@ -25,12 +25,12 @@ fn aluminium_at(q: u64, k: u64, h: u64) -> u64
 }
 
 // The greatest allowed level, from the ceiling down: low is the greatest level known allowed, high the least known not.
-fn search(q: u64, k: u64, limit: u64, ceiling: u64) -> Found
+fn search(q: u64, k: u64, limit: u64, ceiling: u64) -> Searched
     requires { ⌜ Levels q k ceiling ⌝ }
-    ensures { λ r. ⌜ r ≡ foundOf q k limit ceiling ⌝ }
+    ensures { λ r. ⌜ r ≡ searchedOf q k limit ceiling ⌝ }
 {
     if aluminium_at(q, k, ceiling) <= limit {
-        return Found {
+        return Searched {
             level: ceiling,
             compared: 1,
         };
@@ -47,7 +47,7 @@ fn search(q: u64, k: u64, limit: u64, ceiling: u64) -> Found
             high = middle;
         }
     }
-    Found {
+    Searched {
         level: low,
         compared,
     }
@@ -80,7 +80,7 @@ fn level_rule(q: u16, k: u16, ceiling: u16) -> Checked
 pub fn greatest_level(q: u16, k: u16, limit: u64, ceiling: u16) -> LevelAnswer
     ensures answer { λ r. ⌜ r ≡ levelAnswer q k limit ceiling ⌝ }
     ensures values { λ r. ⌜ levelValues r ≡ valuesIf (levelRule q k ceiling) (levelOf q k limit ceiling ∷ length (comparedOf q k limit ceiling) ∷ []) ⌝ }
-    ensures count { λ r. ⌜ ((found : Found) → r ≡ LevelAnswer.Given found → FewCompared q k limit ceiling (found .compared)) ⌝ }
+    ensures count { λ r. ⌜ ((found : Searched) → r ≡ LevelAnswer.Given found → FewCompared q k limit ceiling (found .compared)) ⌝ }
 {
     match level_rule(q, k, ceiling) {
         Checked::Broken(rule) => LevelAnswer::Refused(rule),

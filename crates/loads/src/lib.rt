@@ -20,14 +20,14 @@ pub enum LimitAnswer {
 }
 
 // The greatest allowed hydrogen level, and how many levels were compared with the aluminium limit to find it.
-pub struct Found {
+pub struct Searched {
     pub level: u64,
     pub compared: u64,
 }
 
 // What the search found, or the rule that is broken.
 pub enum LevelAnswer {
-    Given(Found),
+    Given(Searched),
     Refused(Rule),
 }
 

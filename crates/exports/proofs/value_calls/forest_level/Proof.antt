@@ -10,10 +10,10 @@ use Rattle.site.specs.declared.Rule.the-variants.{BadLength}
 use Rattle.site.specs.declared.Checked.the-variants.{Passed}
 use Rattle.loads.specs.SiteTerms.{termsOf}
 use Rattle.loads.specs.Hydrogen.{greatestLevel}
-use Rattle.loads.specs.Search.{foundOf, foundAt, levelsCompared}
+use Rattle.loads.specs.Search.{searchedOf, searchedAt, levelsCompared, levelNumbers}
 use Rattle.level.proofs.SiteLevelLaws.{level-given, level-refused}
 use Rattle.output.proofs.WritingLaws.{stored, and-stored}
-use Rattle.exports.specs.Layout.{siteIn, valueCheck, levelNumbers}
+use Rattle.exports.specs.Layout.{siteIn, valueCheck}
 use Rattle.exports.proofs.SiteValueLaws.{wrong-length, as-site, value-refused, value-short, value-written, with-count}
 use borrow.Author.Needs.{needs}
 use Rattle.exports.proofs.value_calls.forest_level.Statement.{statement}
@@ -36,16 +36,16 @@ returns c =
     let b = now (s .args .site) in
     let old = now (s .args .out) in
     rw (c .refusal-code .ensures)
-    (with-count b old _ (value-refused b 2 (omega arith) (levelNumbers (siteIn b)) old BadLength (wrong-length b (c .before .if1 .taken))))
+    (with-count b old _ (value-refused b 2 (omega arith) (levelNumbers (termsOf (siteIn b))) old BadLength (wrong-length b (c .before .if1 .taken))))
 
 -- the value passed, and this was found
 found :
     (c : tie.After-known-told2) → let b = now (entry (c .before .before .before) .args .site) in
-    (valueCheck b ≡ Passed) × (c .before .found .given .0 .0 ≡ foundAt (termsOf (siteIn b)))
+    (valueCheck b ≡ Passed) × (c .before .found .given .0 .0 ≡ searchedAt (termsOf (siteIn b)))
 found c =
     let at = c .before .before .before in
     let g = level-given (at .before .site-in .result) _ (sym (at .level-at .ensures .0) ∙ c .before .found .given .1) in
-    (site-rule at ∙ g .0, g .1 ∙ ap (λ (s : Site). foundAt (termsOf s)) (at .before .site-in .ensures))
+    (site-rule at ∙ g .0, g .1 ∙ ap (λ (s : Site). searchedAt (termsOf s)) (at .before .site-in .ensures))
 
 site-in-requires : tie.Need-site-in-requires
 site-in-requires c κs = search needs
@@ -72,7 +72,7 @@ returns-2 c =
     let b = now (s .args .site) in
     let old = now (s .args .out) in
     rw (c .refusal-code3 .ensures)
-    (with-count b old _ (value-short b 2 (omega arith) (levelNumbers (siteIn b)) old (found (c .before .before) .0) (omega arith)))
+    (with-count b old _ (value-short b 2 (omega arith) (levelNumbers (termsOf (siteIn b))) old (found (c .before .before) .0) (omega arith)))
 
 slice-write-out : tie.Need-slice-write-out
 slice-write-out c = search needs
@@ -88,7 +88,7 @@ returns-3 c =
     let old = now (s .args .out) in
     rw (c .refusal-code2 .ensures)
     (with-count b old _
-    (value-refused b 2 (omega arith) (levelNumbers (siteIn b)) old _
+    (value-refused b 2 (omega arith) (levelNumbers (termsOf (siteIn b))) old _
     (site-rule at ∙ level-refused (at .before .site-in .result) _ (sym (at .level-at .ensures .0) ∙ c .before .before .rule .given .1))))
 
 same-length : tie.Need-same-length
@@ -97,8 +97,8 @@ same-length c = search needs
 -- the two numbers of the site
 numbers :
     (c : tie.After-known-told2) → let f = c .before .found .given .0 .0 in
-    levelNumbers (siteIn (now (entry (c .before .before .before) .args .site))) ≡ f .level ∷ f .compared ∷ []
-unfolding levelNumbers foundAt foundOf greatestLevel levelsCompared
+    levelNumbers (termsOf (siteIn (now (entry (c .before .before .before) .args .site)))) ≡ f .level ∷ f .compared ∷ []
+unfolding levelNumbers searchedAt searchedOf greatestLevel levelsCompared
 numbers c = rw (found c .1)
 
 returns-4 : tie.Need-returns-4
@@ -109,7 +109,7 @@ returns-4 c =
     let old = now (s .args .out) in
     let f = told .before .found .given .0 .0 in
     with-count b old _
-    (value-written b 2 (omega arith) (levelNumbers (siteIn b)) old {r = 2} (found told .0) (rw (numbers told)) (omega arith)
+    (value-written b 2 (omega arith) (levelNumbers (termsOf (siteIn b))) old {r = 2} (found told .0) (rw (numbers told)) (omega arith)
     (rw (numbers told) (and-stored (stored old 0 (f .level)) 1 (f .compared) refl)))
 
 pub forest-level-spec : {M : Type 1} → statement M

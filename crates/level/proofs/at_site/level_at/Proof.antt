@@ -2,7 +2,7 @@ use mathlib.Core.Path.{sym, _∙_}
 use Rattle.site.specs.ByCheck.{answerIf}
 use Rattle.loads.proofs.LimitAnswers.{limit-given, limit-refused}
 use Rattle.level.specs.SiteLevel.{siteLevel}
-use Rattle.level.proofs.SiteLevelLaws.{searched, level-promise}
+use Rattle.level.proofs.SiteLevelLaws.{search-at, level-promise}
 use borrow.Author.Needs.{needs}
 use Rattle.level.proofs.at_site.level_at.Statement.{statement}
 use Rattle.level.proofs.at_site.level_at.Tie as tie
@@ -31,7 +31,7 @@ returns-2 c =
     let at = c .before .before .before .before in
     let s = at .before .args .site in
     let g = limit-given s _ (sym (at .aluminium-limit .ensures .0) ∙ c .before .before .limit .given .1) in
-    level-promise s _ (rw (c .greatest-level .ensures .0, g .1) (searched s (g .0)))
+    level-promise s _ (rw (c .greatest-level .ensures .0, g .1) (search-at s (g .0)))
 
 pub level-at-spec : {M : Type 1} → statement M
 level-at-spec =

@@ -2,9 +2,9 @@ use Prim.Native.Nat.{_≤_}
 use mathlib.Core.Path.{_≡_, ap}
 use native.Mathlib.Omega.{arith}
 use Rattle.site.specs.Ranges.{ceilingRange, percolationRange}
-use Rattle.loads.specs.declared.Found.{Found}
+use Rattle.loads.specs.declared.Searched.{Searched}
 use Rattle.loads.specs.Hydrogen.{hydrogenOf, levelOf}
-use Rattle.loads.specs.Search.{foundOf}
+use Rattle.loads.specs.Search.{searchedOf}
 use Rattle.loads.proofs.Numbers.{prod}
 use Rattle.loads.proofs.LevelLaws.{level-le, level-allowed, alOf-bound}
 use borrow.Author.Needs.{needs}
@@ -13,8 +13,8 @@ use Rattle.loads.proofs.hydrogen.critical_leaching.Tie as tie
 
 -- the level of the definition, which is at most the ceiling
 level : (c : tie.After-search) → let a = c .before .args in c .search .result .level ≡ levelOf (a .q) (a .k) (a .limit) (a .ceiling)
-unfolding foundOf
-level c = ap (λ (f : Found). f .level) (c .search .ensures)
+unfolding searchedOf
+level c = ap (λ (f : Searched). f .level) (c .search .ensures)
 
 at-most : (c : tie.After-search) → c .search .result .level ≤ ceilingRange .most
 at-most c =

@@ -1,17 +1,18 @@
--- `loads::hydrogen::search` meets its contract. The loop's invariant, `Search`, and its steps are laws on plain numbers.
+-- `loads::hydrogen::search` meets its contract. The loop's invariant, `SearchState`, and its steps are laws on plain numbers.
 use Prim.Native.Nat.{_-_}
 use native.Mathlib.Omega.{arith}
 use borrow.Author.Needs.{needs}
-use Rattle.loads.proofs.SearchLaws.{Search, search-starts, search-raises, search-lowers, search-fits, search-ends, search-at-once}
+use Rattle.loads.proofs.SearchLaws.{SearchState, search-starts, search-raises, search-lowers, search-fits, search-ends, search-at-once}
 use Rattle.loads.proofs.hydrogen.search.Statement.{statement}
 use Rattle.loads.proofs.hydrogen.search.Tie as tie
 
 abbrev Inv-loop : tie.InvT-loop
-Inv-loop q k limit ceiling low₀ high₀ compared₀ low high compared = Search q k limit ceiling low high compared
+Inv-loop q k limit ceiling low₀ high₀ compared₀ low high compared = SearchState q k limit ceiling low high compared
 
 abbrev μ-loop : tie.MeasureT-loop
 μ-loop q k limit ceiling low₀ high₀ compared₀ low high compared = high - low
 
+-- Where the loop ends comes first: a search that stops too soon is refused here, and not at the loop's measure.
 returns-2 : tie.Need-returns-2 Inv-loop μ-loop
 returns-2 c = search-ends (c .before .loop .inv) (c .loop-test .left)
 
