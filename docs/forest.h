@@ -98,7 +98,7 @@ uint64_t forest_loads(const uint8_t *site, size_t site_len, uint64_t *out, size_
 /* Two numbers: the greatest allowed hydrogen level h, in tenths of meq per cubic metre, and how many levels the search
  * compared with the aluminium limit. It looks at the ceiling first and, only if that is not allowed, always at the mean,
  * down, of the greatest level known allowed (0 at first, not compared) and the least known not, until these are neighbours.
- * So it is 1 exactly where the ceiling is allowed, and never more than 14. Stack: 1 KiB. */
+ * So the count is 1 exactly where the ceiling is allowed, and never more than 14. Stack: 1 KiB. */
 uint64_t forest_level(const uint8_t *site, size_t site_len, uint64_t *out, size_t out_len);
 
 /* Eight numbers: the four loads, region (0 to 4), acid exceedance, nutrient exceedance, mark (0 within, 1 over).

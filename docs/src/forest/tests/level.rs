@@ -39,8 +39,16 @@ fn a1_compares_11_levels() {
 fn a_ceiling_that_is_allowed_is_compared_alone() {
     assert_eq!(compared(&a1_with_ceiling(1)).0, [1]);
     assert_eq!(compared(&a1_with_ceiling(818)).0, [818]);
+}
+
+#[test]
+fn a_ceiling_that_just_is_not_allowed() {
     let (levels, found) = compared(&a1_with_ceiling(819));
-    assert_eq!((levels.len(), found.level), (11, 818));
+    assert_eq!(
+        levels,
+        [819, 409, 614, 716, 767, 793, 806, 812, 815, 817, 818]
+    );
+    assert_eq!(found.level, 818);
 }
 
 #[test]
