@@ -7,6 +7,8 @@
 //   T  two bytes, a count with the high byte first, then one record: the pages of a file of that many such records, as far as the buffer holds them
 //   M  a record, then months of the rain sampler, those left out being dry: the pair of the year and its judgement at the record's site, or the line of its refusal
 //   H  a record: the hydrogen level of its site and how many levels were compared, or the line of its refusal
+#![tactic(auto)]
+
 ghost use Rattle.std.specs.Prelude.{◌≤◌, length};
 ghost use Rattle.io.specs.Counts.{IsPrefixLen};
 

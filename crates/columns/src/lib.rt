@@ -1,4 +1,6 @@
 // A line of a page: the header, or a row, in columns of fixed width.
+#![tactic(auto)]
+
 mod column;
 mod line;
 

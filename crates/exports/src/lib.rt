@@ -1,4 +1,6 @@
 // The C interface: `docs/forest.h` describes it for its users.
+#![tactic(auto)]
+
 mod codes;
 mod file_calls;
 mod layout;

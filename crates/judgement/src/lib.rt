@@ -1,4 +1,6 @@
 // The judgement of a site's deposition: regions, exceedances and the verdict.
+#![tactic(auto)]
+
 mod exceedance;
 mod judging;
 mod regions;

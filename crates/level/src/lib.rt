@@ -1,4 +1,6 @@
 // The hydrogen level of a site, and how many levels the search for it compares.
+#![tactic(auto)]
+
 mod at_site;
 
 pub use at_site::level_at;

@@ -1,4 +1,6 @@
 // The listing of a file of records.
+#![tactic(auto)]
+
 mod listing;
 mod reporting;
 mod walking;

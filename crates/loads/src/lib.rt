@@ -1,4 +1,6 @@
 // The critical loads of a site: the terms of document 01, "Terms, in order".
+#![tactic(auto)]
+
 mod bases;
 mod critical;
 mod hydrogen;

@@ -1,4 +1,6 @@
 // Numbers: those that stand in bytes, and raw ones widened.
+#![tactic(auto)]
+
 mod bytes;
 mod widen;
 

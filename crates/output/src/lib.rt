@@ -1,4 +1,6 @@
 // Output into a lent buffer.
+#![tactic(auto)]
+
 mod writing;
 
 use site::Rule;

@@ -1,4 +1,6 @@
 // What the program decides: what follows a read, and what is printed.
+#![tactic(auto)]
+
 mod printing;
 mod reader;
 

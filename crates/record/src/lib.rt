@@ -1,4 +1,6 @@
 // Site records: reading and writing one.
+#![tactic(auto)]
+
 mod answer;
 mod bytes;
 mod due;

@@ -1,4 +1,6 @@
 // Twelve months of the rain sampler, taken to the pair S, N of the year, which is judged at a site.
+#![tactic(auto)]
+
 mod floats;
 mod judging;
 mod months;

@@ -1,4 +1,6 @@
 // The value of a forest site, the rules of document 01, and the check of a site value.
+#![tactic(auto)]
+
 mod between;
 mod bytes;
 mod check;

@@ -1,4 +1,6 @@
 // The text of a listing, written into a lent buffer.
+#![tactic(auto)]
+
 mod columns;
 mod decimal;
 mod line;

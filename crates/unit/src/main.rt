@@ -1,4 +1,6 @@
 // Reads a file of records from standard input and prints its listing, or the line of the refusal. What it decides is in `program`.
+#![tactic(auto)]
+
 fn main() {
     let mut file = [0u8; 129001];
     let input = program::read_all(&mut file);
