@@ -9,7 +9,7 @@ pub use start::blank;
 pub use taking::take_field;
 
 // A field taken into a site: what its rules say, and the site.
-#[derive(Drop)]
+#[derive(Clone, Copy)]
 pub struct Taken {
     pub checked: Checked,
     pub site: Site,

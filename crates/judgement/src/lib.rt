@@ -11,7 +11,7 @@ pub use regions::region_number;
 use site::Rule;
 
 // The acid regions of document 01, "Judging a pair S, N", by the condition under which each is the first that applies. n is N − CLminN.
-#[derive(Drop)]
+#[derive(Clone, Copy)]
 pub enum Region {
     // 0: S ≤ CLmaxS, and n ≤ 0 or v ≤ 0
     AcidKept,
@@ -26,7 +26,7 @@ pub enum Region {
 }
 
 // Within, or over with the region and both exceedances. Over by nitrogen as a nutrient alone has region 0.
-#[derive(Drop)]
+#[derive(Clone, Copy)]
 pub enum Verdict {
     Within,
     Over {
@@ -36,14 +36,14 @@ pub enum Verdict {
     },
 }
 
-#[derive(Drop)]
+#[derive(Clone, Copy)]
 pub struct Judged {
     pub loads: Loads,
     pub verdict: Verdict,
 }
 
 // The loads and the verdict, or the rule that the site breaks.
-#[derive(Drop)]
+#[derive(Clone, Copy)]
 pub enum JudgementAnswer {
     Given(Judged),
     Refused(Rule),

@@ -12,7 +12,7 @@ use text::Row;
 pub use walking::walk_file;
 
 // The rows of a file's records, or its first fault and no row. Rows from `count` on are blank.
-#[derive(Drop)]
+#[derive(Clone, Copy)]
 pub struct Walked {
     pub outcome: Outcome,
     pub rows: [Row; 500],
@@ -21,7 +21,7 @@ pub struct Walked {
 
 // A step of the walk, at an offset of a file: the row of the record there and the offset after it, or its fault, a blank row and the offset
 // itself.
-#[derive(Drop)]
+#[derive(Clone, Copy)]
 struct Step {
     outcome: Outcome,
     row: Row,

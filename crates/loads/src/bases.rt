@@ -16,7 +16,7 @@ use numbers::{wide, wide8, wide16};
 use site::{Checked, Site, check_site};
 
 // B + W − Bu, and A
-#[derive(Drop)]
+#[derive(Clone, Copy)]
 pub struct Bases {
     pub supply: u64,
     pub limit: u64,

@@ -16,28 +16,28 @@ pub use nitrogen::undenitrified_at;
 use site::Rule;
 
 // The aluminium limit, or the rule that the site breaks.
-#[derive(Drop)]
+#[derive(Clone, Copy)]
 pub enum LimitAnswer {
     Given(u64),
     Refused(Rule),
 }
 
 // The greatest allowed hydrogen level, and how many levels were compared with the aluminium limit to find it.
-#[derive(Drop)]
+#[derive(Clone, Copy)]
 pub struct Searched {
     pub level: u64,
     pub compared: u64,
 }
 
 // What the search found, or the rule that is broken.
-#[derive(Drop)]
+#[derive(Clone, Copy)]
 pub enum LevelAnswer {
     Given(Searched),
     Refused(Rule),
 }
 
 // Whole eq per hectare and year: CLmaxS, CLminN, CLmaxN, CLnutN.
-#[derive(Drop)]
+#[derive(Clone, Copy)]
 pub struct Loads {
     pub max_s: u64,
     pub min_n: u64,
@@ -46,7 +46,7 @@ pub struct Loads {
 }
 
 // The loads, or the rule that the site breaks.
-#[derive(Drop)]
+#[derive(Clone, Copy)]
 pub enum LoadsAnswer {
     Given(Loads),
     Refused(Rule),

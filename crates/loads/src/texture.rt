@@ -3,7 +3,7 @@ ghost use Rattle.std.specs.Prelude.{◌≡◌, ◌+◌, ◌≤◌};
 ghost use Rattle.loads.specs.Texture.{texture_number, texture_of};
 
 // The texture classes 1 to 5.
-#[derive(Drop)]
+#[derive(Clone, Copy)]
 pub enum Texture {
     Coarse,
     Medium,

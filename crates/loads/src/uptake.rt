@@ -29,7 +29,7 @@ fn contents_of(species: usize) -> [u16; 4]
     CONTENTS[species]
 }
 
-#[derive(Drop)]
+#[derive(Clone, Copy)]
 pub struct Sums {
     pub nitrogen: u64,
     pub base: u64,

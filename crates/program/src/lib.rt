@@ -8,7 +8,7 @@ pub use printing::to_print;
 pub use reader::{after_read, read_all};
 
 // Where the reading of a file stands, with how many bytes are read.
-#[derive(Drop)]
+#[derive(Clone, Copy)]
 pub enum ReadState {
     More(usize),
     Ended(usize),
@@ -16,7 +16,7 @@ pub enum ReadState {
 }
 
 // Where the reads have led, and the number that the last of them gave.
-#[derive(Drop)]
+#[derive(Clone, Copy)]
 pub struct Input {
     pub reading: ReadState,
     pub last: isize,

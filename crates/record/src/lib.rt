@@ -16,21 +16,21 @@ use site::{Rule, Site};
 pub use writer::write_record;
 
 // What came of a reading: a site, or the rule that is broken and the offset of the fault.
-#[derive(Drop)]
+#[derive(Clone, Copy)]
 pub enum Outcome {
     Accepted,
     Refused { rule: Rule, at: usize },
 }
 
 // The single record of a file. A refusal carries the blank site.
-#[derive(Drop)]
+#[derive(Clone, Copy)]
 pub struct Read {
     pub outcome: Outcome,
     pub site: Site,
 }
 
 // A record of a file, and where the next one starts. A refusal carries the blank site and the record's own offset.
-#[derive(Drop)]
+#[derive(Clone, Copy)]
 pub struct Found {
     pub outcome: Outcome,
     pub site: Site,

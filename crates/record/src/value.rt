@@ -9,7 +9,7 @@ use numbers::wide;
 use site::{Entry, Site};
 
 // The first `len` of `bytes`; what stands behind them has no meaning.
-#[derive(Drop)]
+#[derive(Clone, Copy)]
 pub struct ValueBytes {
     pub bytes: [u8; 16],
     pub len: usize,

@@ -7,7 +7,7 @@ ghost use Rattle.sampler.specs.FloatBits.{exponent, units};
 use site::Rule;
 
 // µg per litre, or the rule that a reading breaks.
-#[derive(Drop)]
+#[derive(Clone, Copy)]
 pub enum Concentration {
     Micrograms(u64),
     Refused(Rule),

@@ -11,7 +11,7 @@ pub use judging::{judge_months, refuse_checked};
 use site::Rule;
 
 // A concentration in mg per litre: as measured, the detection limit it lay below, or missing.
-#[derive(Drop)]
+#[derive(Clone, Copy)]
 pub enum Reading {
     Measured(f32),
     Below(f32),
@@ -19,7 +19,7 @@ pub enum Reading {
 }
 
 // Rain in mm, and the readings of sulphate sulphur, nitrate nitrogen and ammonium nitrogen.
-#[derive(Drop)]
+#[derive(Clone, Copy)]
 pub struct Month {
     pub rain: u16,
     pub sulphate: Reading,
@@ -28,7 +28,7 @@ pub struct Month {
 }
 
 // The pair S, N of a year, and its judgement at a site.
-#[derive(Drop)]
+#[derive(Clone, Copy)]
 pub struct Sampled {
     pub sulphur: u16,
     pub nitrogen: u16,
@@ -36,7 +36,7 @@ pub struct Sampled {
 }
 
 // The pair with its judgement, or the rule that is broken first and its offset: 0 for the site, the month's index, or 12 for the year.
-#[derive(Drop)]
+#[derive(Clone, Copy)]
 pub enum SampleAnswer {
     Given(Sampled),
     Refused { rule: Rule, at: usize },

@@ -9,7 +9,7 @@ use numbers::wide16;
 use site::Rule;
 
 // Sulphur, and both forms of nitrogen together; or the rule that the month breaks.
-#[derive(Drop)]
+#[derive(Clone, Copy)]
 pub enum Deposition {
     Brought { sulphur: u64, nitrogen: u64 },
     Refused(Rule),

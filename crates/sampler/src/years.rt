@@ -7,7 +7,7 @@ use crate::months::{Deposition, month_deposition};
 use site::Rule;
 
 // The pair, or the rule that is broken first and where.
-#[derive(Drop)]
+#[derive(Clone, Copy)]
 pub enum Year {
     Pair { sulphur: u16, nitrogen: u16 },
     Refused { rule: Rule, at: usize },

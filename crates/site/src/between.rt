@@ -13,6 +13,7 @@ pub fn in_range(ok: bool) -> Checked
     Checked::Broken(Rule::OutOfRange)
 }
 
+#[tactic(auto, unfolding(crate::specs::Values::between))]
 pub fn word_between(lo: u16, hi: u16, x: u16) -> Checked
     ensures { result ≡ between (record { least = lo; most = hi }) x }
 {

@@ -5,6 +5,7 @@ ghost use Rattle.site.specs.Bytes.{name_in, entry_at};
 use crate::Entry;
 use numbers::{byte, word_at};
 
+#[tactic(auto, unfolding(crate::specs::Bytes::tabulate))]
 pub fn name_in(s: &[u8]) -> [u8; 8]
     ensures { result ≡ name_in s.now }
 {
@@ -21,6 +22,7 @@ pub fn name_in(s: &[u8]) -> [u8; 8]
 }
 
 // The entry whose four bytes start at i.
+#[tactic(auto, using(crate::proofs::EntryPast::entry_past), unfolding(crate::specs::Bytes::entry_at))]
 pub fn entry_at(s: &[u8], i: usize) -> Entry
     ensures { result ≡ entry_at s.now i }
 {

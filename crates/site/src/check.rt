@@ -9,6 +9,7 @@ use crate::value::value_rule;
 use crate::{Checked, Site};
 
 // The first that is broken.
+#[tactic(auto, unfolding(crate::specs::Refusal::and_then))]
 fn both(a: Checked, b: Checked) -> Checked
     ensures { result ≡ and_then a b }
 {
@@ -28,6 +29,7 @@ fn check_field(site: Site, tag: u8, later: Checked) -> Checked
 }
 
 // Five fields from tag t on, then the later ones. With no loop each tag is a constant when this is inlined, and its rule a few tests.
+#[tactic(auto, using(crate::proofs::FieldLaws::then_assoc), unfolding(crate::specs::Check::fields_rule, crate::specs::Refusal::and_then))]
 fn five_fields(site: Site, t: u8, later: Checked) -> Checked
     requires { t ≤ 251 }
     ensures { result ≡ and_then (fields_rule (t ∷ (t + 1) ∷ (t + 2) ∷ (t + 3) ∷ (t + 4) ∷ []) site) later }
@@ -39,6 +41,7 @@ fn five_fields(site: Site, t: u8, later: Checked) -> Checked
     check_field(site, t, b)
 }
 
+#[tactic(auto, using(crate::proofs::FieldLaws::then_assoc, crate::proofs::NumberLaws::numbered, crate::proofs::NumberLaws::known_site), unfolding(crate::specs::Check::fields_rule, crate::specs::Check::site_rule, crate::specs::Refusal::and_then))]
 pub fn check_site(site: Site) -> Checked
     ensures answer { result ≡ site_rule site }
     ensures number { Numbered (site_rule site) (checked_number result) }

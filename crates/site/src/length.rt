@@ -6,13 +6,14 @@ use crate::{Checked, Rule, Site};
 use numbers::wide;
 
 // How many bytes an item of a field has, and how many items there may be.
-#[derive(Drop)]
+#[derive(Clone, Copy)]
 struct Items {
     width: usize,
     most: usize,
 }
 
 // A match and no constant array, which would be set up anew at each call.
+#[tactic(auto, using(crate::proofs::MatchLaws::none_below, crate::proofs::LengthLaws::no_items_lem))]
 fn items_of(tag: u8) -> Items
     ensures { result ≡ items_of tag }
 {
@@ -36,6 +37,7 @@ fn items_of(tag: u8) -> Items
     }
 }
 
+#[tactic(auto, using(crate::proofs::LengthLaws::width_positive, crate::proofs::LengthLaws::longest, crate::proofs::LengthLaws::permitted_none, crate::proofs::LengthLaws::permitted_more, crate::proofs::LengthLaws::permitted_items))]
 pub fn length_permitted(tag: u8, n: usize) -> bool
     ensures { result ≡ length_permitted tag n }
 {
@@ -54,6 +56,7 @@ pub fn length_permitted(tag: u8, n: usize) -> bool
     n % width == 0
 }
 
+#[tactic(auto, unfolding(crate::specs::Values::item_count))]
 fn item_count(site: Site, tag: u8) -> usize
     ensures { result ≡ item_count tag site }
 {
@@ -64,6 +67,7 @@ fn item_count(site: Site, tag: u8) -> usize
     }
 }
 
+#[tactic(auto, unfolding(crate::specs::Values::count_rule))]
 pub fn count_rule(site: Site, tag: u8) -> Checked
     ensures { result ≡ count_rule tag site }
 {

@@ -23,7 +23,7 @@ pub use refusal::rule_number;
 pub use stand::stand_rule;
 
 // An entry of the stand: species, share in percent, yield of a pure stand in kg dry matter per hectare and year.
-#[derive(Drop)]
+#[derive(Clone, Copy)]
 pub struct Entry {
     pub species: u8,
     pub share: u8,
@@ -32,7 +32,7 @@ pub struct Entry {
 
 // The values of document 01, "The site's values", raw: every bad site can be held, and is refused by the check.
 // Name bytes from `name_len` on and entries from `entries` on are no part of the site.
-#[derive(Drop)]
+#[derive(Clone, Copy)]
 pub struct Site {
     pub name: [u8; 8],
     pub name_len: u8,
@@ -56,7 +56,7 @@ pub struct Site {
 }
 
 // The refusals by number: 1 to 11 of document 01, "Where each check stands", then those of document 02.
-#[derive(Drop)]
+#[derive(Clone, Copy)]
 pub enum Rule {
     NoBytes,
     OuterCut,
@@ -75,7 +75,7 @@ pub enum Rule {
 }
 
 // What a check says.
-#[derive(Drop)]
+#[derive(Clone, Copy)]
 pub enum Checked {
     Passed,
     Broken(Rule),

@@ -6,6 +6,7 @@ use crate::Checked;
 use crate::between::in_range;
 use numbers::wide;
 
+#[tactic(auto, unfolding(crate::specs::Values::name_byte))]
 fn name_byte(b: u8) -> bool
     ensures { result ≡ name_byte b }
 {
@@ -21,6 +22,7 @@ fn name_byte(b: u8) -> bool
     b <= 90
 }
 
+#[tactic(auto, using(crate::proofs::PartLaws::part_end, crate::proofs::PartLaws::all_next, crate::proofs::PartLaws::all_stop), unfolding(crate::specs::Values::all_of))]
 fn name_ranged(name: [u8; 8], n: u8) -> bool
     ensures { result ≡ all_of name_byte (take n name) }
 {

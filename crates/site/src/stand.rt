@@ -6,6 +6,7 @@ ghost use Rattle.site.specs.Values.{entry_ranged, order_rule, stand_rule};
 use crate::{Checked, Entry, Rule};
 use numbers::wide;
 
+#[tactic(auto, unfolding(crate::specs::Values::entry_ranged))]
 fn entry_ranged(e: Entry) -> bool
     ensures { result ≡ entry_ranged e }
 {
@@ -20,7 +21,7 @@ fn entry_ranged(e: Entry) -> bool
 }
 
 // What entries in range have shown: whether their species rise, the least that the next may be, and the sum of their shares.
-#[derive(Drop)]
+#[derive(Clone, Copy)]
 struct Seen {
     rising: bool,
     least: usize,
@@ -61,6 +62,7 @@ fn seen_rule(seen: Seen) -> Checked
     Checked::Broken(Rule::NotRising)
 }
 
+#[tactic(auto, using(crate::proofs::BoundsLaw::entry_bounds, crate::proofs::StandLaws::rest_rule, crate::proofs::StandLaws::rest_start, crate::proofs::StandLaws::rest_end, crate::proofs::StandLaws::rest_next, crate::proofs::StandLaws::rest_stop))]
 pub fn stand_rule(stand: [Entry; 4], n: u8) -> Checked
     ensures { result ≡ stand_rule (take n stand) }
 {

@@ -10,6 +10,7 @@ use crate::ranges::{
 use crate::stand::stand_rule;
 use crate::{Checked, Site};
 
+#[tactic(auto, using(crate::proofs::MatchLaws::none_below, crate::proofs::FieldLaws::value_none), unfolding(crate::specs::Values::value_rule))]
 pub fn value_rule(site: Site, tag: u8) -> Checked
     ensures { result ≡ value_rule tag site }
 {

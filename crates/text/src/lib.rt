@@ -16,7 +16,7 @@ use loads::Loads;
 pub use refusal::put_refusal;
 
 // What a line of the listing shows. Name bytes from `name_len` on are not shown. With the loads first a row is copied in fewer pieces.
-#[derive(Drop)]
+#[derive(Clone, Copy)]
 pub struct Row {
     pub loads: Loads,
     pub name: [u8; 8],
