@@ -4,6 +4,7 @@ ghost use Rattle.field.specs.Field.{blank_site};
 
 use site::{Entry, Site};
 
+#[tactic(auto, unfolding(crate::specs::Field::blank_site))]
 pub fn blank() -> Site
     ensures { result ≡ blank_site }
 {

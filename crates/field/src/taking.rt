@@ -13,6 +13,7 @@ use site::{
     name_in, name_rule, parent_rule, percolation_rule, ratio_rule, stand_rule, texture_rule,
 };
 
+#[tactic(auto, unfolding(crate::specs::Field::store, site::specs::Values::value_rule))]
 fn store_name(site: Site, value: &[u8]) -> Taken
     requires { length value.now ≤ 8 }
     ensures { Stored 1 value.now site result }
@@ -26,6 +27,7 @@ fn store_name(site: Site, value: &[u8]) -> Taken
     Taken { checked, site: s }
 }
 
+#[tactic(auto, unfolding(crate::specs::Field::store, site::specs::Bytes::tabulate, site::specs::Values::value_rule))]
 fn store_stand(site: Site, value: &[u8]) -> Taken
     requires { length value.now ≤ 16 }
     ensures { Stored 7 value.now site result }
@@ -44,6 +46,7 @@ fn store_stand(site: Site, value: &[u8]) -> Taken
 }
 
 // Tags 02 to 06: parent material, texture, root depth, drainage, percolation.
+#[tactic(auto, using(site::proofs::MatchLaws::none_left), unfolding(crate::specs::Field::store, site::specs::Values::value_rule))]
 fn store_ground(site: Site, tag: u8, value: &[u8]) -> Taken
     requires { (2 ≤ tag) × (tag ≤ 6) }
     ensures { Stored tag value.now site result }
@@ -91,6 +94,7 @@ fn store_ground(site: Site, tag: u8, value: &[u8]) -> Taken
 }
 
 // Tags 08 to 0F: from immobilisation to the pair.
+#[tactic(auto, using(site::proofs::MatchLaws::none_left), unfolding(crate::specs::Field::store, site::specs::Values::value_rule))]
 fn store_limits(site: Site, tag: u8, value: &[u8]) -> Taken
     requires { (8 ≤ tag) × (tag ≤ 15) }
     ensures { Stored tag value.now site result }
@@ -154,6 +158,7 @@ fn store_limits(site: Site, tag: u8, value: &[u8]) -> Taken
 }
 
 // A field of a permitted length.
+#[tactic(auto, using(site::proofs::LengthLaws::permitted_parts, site::proofs::LengthLaws::permitted_tag))]
 fn store_field(site: Site, tag: u8, value: &[u8]) -> Taken
     requires { length_permitted tag (length value.now) ≡ true }
     ensures { Stored tag value.now site result }
@@ -171,6 +176,7 @@ fn store_field(site: Site, tag: u8, value: &[u8]) -> Taken
 }
 
 // Rules 7 to 10 of a field, and the site with its value.
+#[tactic(auto, using(crate::proofs::TakenLaws::taken_stored, crate::proofs::TakenLaws::taken_refused))]
 pub fn take_field(site: Site, tag: u8, value: &[u8]) -> Taken
     ensures answer { result ≡ taken tag value.now site }
     ensures number { Numbered (field_rule site_kind tag value.now site) (checked_number result.checked) }

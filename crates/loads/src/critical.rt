@@ -17,6 +17,7 @@ use numbers::{wide, wide16};
 use site::{Checked, Site, check_site};
 
 // CLmaxS, with the sum of the bases in the stand at hand
+#[tactic(auto, using(crate::proofs::SiteTermLaws::term_bounds))]
 fn max_s_of(s: Site, sum: u64) -> u64
     requires { Bounds s × BaseSum s sum }
     ensures { (result ≡ cl_max_s (terms_of s)) × (result ≤ most_max_s) }
@@ -44,6 +45,7 @@ fn with_nitrogen(max_s: u64, min_n: u64, leached: u64, e: u64) -> Loads
     }
 }
 
+#[tactic(auto, using(crate::proofs::TermLaws::loads_by, crate::proofs::SiteTermLaws::leaching_is))]
 fn loads_of(s: Site) -> Loads
     requires { Bounds s }
     ensures { result ≡ loads_of (terms_of s) }
@@ -58,6 +60,7 @@ fn loads_of(s: Site) -> Loads
 }
 
 // The loads of a site, or the first rule that it breaks.
+#[tactic(auto, using(site::proofs::BoundsLaw::bounds, crate::proofs::LoadsAnswers::loads_promise), unfolding(crate::specs::CriticalLoads::loads_answer, site::specs::ByCheck::answer_if))]
 pub fn critical_loads(site: Site) -> LoadsAnswer
     ensures answer { result ≡ loads_answer site }
     ensures values { loads_values result ≡ values_if (site_rule site) (cl_max_s (terms_of site) ∷ cl_min_n (terms_of site) ∷ cl_max_n (terms_of site) ∷ cl_nut_n (terms_of site) ∷ []) }

@@ -11,6 +11,7 @@ use numbers::wide16;
 use site::{Checked, ceiling_rule, gibbsite_rule, percolation_rule};
 
 // al(h)
+#[tactic(auto, using(crate::proofs::LevelLaws::cube, crate::proofs::LevelLaws::square_le, crate::proofs::LevelLaws::cube_le, crate::proofs::LevelLaws::qk_le, crate::proofs::LevelLaws::al_le), unfolding(crate::specs::Hydrogen::al_of))]
 fn aluminium_at(q: u64, k: u64, h: u64) -> u64
     requires { Levels q k h }
     ensures { result ≡ al_of q k h }
@@ -19,6 +20,7 @@ fn aluminium_at(q: u64, k: u64, h: u64) -> u64
 }
 
 // The greatest allowed level, from the ceiling down: low is the greatest level known allowed, high the least known not.
+#[tactic(auto, using(crate::proofs::SearchLaws::search_starts, crate::proofs::SearchLaws::search_raises, crate::proofs::SearchLaws::search_lowers, crate::proofs::SearchLaws::search_fits, crate::proofs::SearchLaws::search_ends, crate::proofs::SearchLaws::search_at_once))]
 fn search(q: u64, k: u64, limit: u64, ceiling: u64) -> Searched
     requires { Levels q k ceiling }
     ensures { result ≡ searched_of q k limit ceiling }
@@ -48,6 +50,7 @@ fn search(q: u64, k: u64, limit: u64, ceiling: u64) -> Searched
 }
 
 // M
+#[tactic(auto, using(crate::proofs::Numbers::prod, crate::proofs::LevelLaws::level_le, crate::proofs::LevelLaws::level_allowed, crate::proofs::LevelLaws::al_of_bound), unfolding(crate::specs::Search::searched_of, crate::specs::Hydrogen::hydrogen_of))]
 pub fn critical_leaching(q: u64, k: u64, limit: u64, ceiling: u64) -> u64
     requires { Levels q k ceiling }
     ensures { (result ≡ hydrogen_of q (level_of q k limit ceiling) + al_of q k (level_of q k limit ceiling)) × (result ≤ most_hydrogen + limit) }
@@ -58,6 +61,7 @@ pub fn critical_leaching(q: u64, k: u64, limit: u64, ceiling: u64) -> u64
 }
 
 // Rule 8 for percolation, gibbsite constant and hydrogen ceiling.
+#[tactic(auto, unfolding(crate::specs::Search::level_rule, site::specs::Refusal::and_then))]
 fn level_rule(q: u16, k: u16, ceiling: u16) -> Checked
     ensures { result ≡ level_rule q k ceiling }
 {
@@ -71,6 +75,7 @@ fn level_rule(q: u16, k: u16, ceiling: u16) -> Checked
 }
 
 // The greatest allowed level for percolation q, gibbsite constant k, aluminium limit and hydrogen ceiling, and how many levels were compared.
+#[tactic(auto, using(crate::proofs::LevelAnswers::level_passed, crate::proofs::LevelAnswers::level_promise), unfolding(crate::specs::Search::level_answer, site::specs::ByCheck::answer_if))]
 pub fn greatest_level(q: u16, k: u16, limit: u64, ceiling: u16) -> LevelAnswer
     ensures answer { result ≡ level_answer q k limit ceiling }
     ensures values { level_values result ≡ values_if (level_rule q k ceiling) (level_of q k limit ceiling ∷ length (compared_of q k limit ceiling) ∷ []) }

@@ -19,6 +19,7 @@ fn drainage_part(drainage: usize) -> u64
 }
 
 // d: 800 for organic parent material, else by drainage. Past class 5, which no site that passes has, the definition takes 0.
+#[tactic(auto, using(crate::proofs::DenitrifiedLaws::organic_part, crate::proofs::DenitrifiedLaws::mineral_part, crate::proofs::Tables::drainage_part_none))]
 fn denitrified_of(parent: u8, drainage: u8) -> u64
     ensures { result ≡ denitrified parent drainage }
 {
@@ -33,6 +34,7 @@ fn denitrified_of(parent: u8, drainage: u8) -> u64
 }
 
 // e at a site
+#[tactic(auto, using(crate::proofs::DenitrifiedLaws::undenitrified_is))]
 pub fn undenitrified_at(s: Site) -> u64
     ensures { result ≡ (terms_of s).e }
 {

@@ -12,6 +12,7 @@ pub enum Texture {
     VeryFine,
 }
 
+#[tactic(auto, using(crate::proofs::TextureLaws::very_fine, crate::proofs::TextureLaws::fine, crate::proofs::TextureLaws::medium_fine, crate::proofs::TextureLaws::coarse, crate::proofs::TextureLaws::medium_light, crate::proofs::TextureLaws::medium_heavy))]
 pub fn texture_of(clay: u8, sand: u8) -> Texture
     ensures { texture_number result ≡ texture_of clay sand }
 {

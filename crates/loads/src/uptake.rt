@@ -36,6 +36,7 @@ pub struct Sums {
 }
 
 // share × yield × content of one entry, for N and for Ca + Mg + K
+#[tactic(auto, using(crate::proofs::Numbers::prod), unfolding(crate::specs::Uptake::weight_of, crate::specs::Uptake::nitrogen_in, crate::specs::Uptake::base_in, crate::specs::Uptake::content))]
 fn weighed(entry: Entry) -> Sums
     requires { EntryBounds entry }
     ensures { Weighed entry result.nitrogen result.base }
@@ -50,6 +51,7 @@ fn weighed(entry: Entry) -> Sums
 }
 
 // the same over the entries
+#[tactic(auto, using(crate::proofs::UptakeLaws::sum_none, crate::proofs::UptakeLaws::sum_more))]
 pub fn stand_sums(stand: [Entry; 4], entries: usize) -> Sums
     requires { StandBounds stand entries }
     ensures { Summed stand entries result.nitrogen result.base }
@@ -67,6 +69,7 @@ pub fn stand_sums(stand: [Entry; 4], entries: usize) -> Sums
 }
 
 // Bu: bases is B + w
+#[tactic(auto, unfolding(crate::specs::Rounding::up, crate::specs::Uptake::base_uptake_of))]
 pub fn base_uptake(demand: u64, bases: u64, q: u64) -> u64
     requires { q ≤ percolation_range.most }
     ensures { (result ≡ base_uptake_of demand bases q) × (result ≤ bases) }

@@ -17,6 +17,7 @@ const CLASSES: [[u8; 5]; 5] = [
     [20, 20, 20, 20, 20],
 ];
 
+#[tactic(auto, unfolding(crate::specs::Weathering::class_of))]
 fn class_of(parent: usize, clay: u8, sand: u8) -> u64
     requires { parent ≤ parent_range.most }
     ensures { result ≡ class_of parent (texture_of clay sand) }
@@ -25,6 +26,7 @@ fn class_of(parent: usize, clay: u8, sand: u8) -> u64
     wide8(CLASSES[parent][place])
 }
 
+#[tactic(auto, using(crate::proofs::Numbers::prod, crate::proofs::Tables::class_le, crate::proofs::Tables::class_pos, crate::proofs::TextureLaws::texture_between), unfolding(crate::specs::Weathering::weathering_of))]
 pub fn weathering_of(parent: u8, clay: u8, sand: u8, depth: u8) -> u64
     requires { parent ≤ parent_range.most }
     ensures { result ≡ weathering_of parent clay sand depth }
@@ -36,6 +38,7 @@ pub fn weathering_of(parent: u8, clay: u8, sand: u8, depth: u8) -> u64
     (500 * k - 250) * wide8(depth) / 100
 }
 
+#[tactic(auto, using(crate::proofs::Numbers::prod, crate::proofs::Numbers::part_le))]
 pub fn available_of(weathered: u64, share: u64) -> u64
     requires { (weathered ≤ most_weathering) × (share ≤ available_range.most) }
     ensures { (result ≡ available_of weathered share) × (result ≤ weathered) }
