@@ -6,6 +6,7 @@ use crate::{Outcome, Read};
 use field::blank;
 use site::Rule;
 
+#[tactic(auto, unfolding(crate::specs::ReadAnswers::refused_at))]
 pub fn refused_read(rule: Rule, at: usize) -> Read
     ensures { result ≡ refused_at rule at }
 {

@@ -12,6 +12,7 @@ use field::{blank, take_field};
 use site::{Checked, Rule};
 
 // Rules 5 and 6 at the bytes that are left.
+#[tactic(auto, unfolding(crate::specs::Fields::head_rule))]
 fn head_rule(rest: &[u8], tag: u8) -> Checked
     ensures { result ≡ head_rule tag rest.now }
 {
@@ -34,6 +35,7 @@ fn head_rule(rest: &[u8], tag: u8) -> Checked
 }
 
 // The fields 01 to 0F of a record. The part starts at `base` of the lent input.
+#[tactic(auto, using(crate::proofs::ResultLaws::read_good, crate::proofs::ResultLaws::read_fault, crate::proofs::WalkLaws::head_passed, crate::proofs::WalkLaws::walk_head, crate::proofs::WalkLaws::walk_done, crate::proofs::WalkLaws::walk_more, crate::proofs::WalkLaws::site_value, crate::proofs::WalkLaws::site_next), unfolding(crate::specs::ReadAnswers::accepted))]
 pub fn read_fields(part: &[u8], base: usize) -> Read
     requires { base + length part.now < 2 ^ 64 }
     ensures { result ≡ read_of (fields_in site_kind part.now base) }

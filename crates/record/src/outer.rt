@@ -14,6 +14,7 @@ use crate::{Found, Outcome, Read};
 use site::{Checked, Rule};
 
 // Rules 2 and 3 at the bytes that are left.
+#[tactic(auto, unfolding(crate::specs::Records::outer_rule))]
 fn front_rule(rest: &[u8]) -> Checked
     ensures { result ≡ outer_rule site_tag rest.now }
 {
@@ -36,6 +37,7 @@ fn front_rule(rest: &[u8]) -> Checked
 }
 
 // The same at an offset, which may lie past the end.
+#[tactic(auto, using(crate::proofs::WalkLaws::rest_all, crate::proofs::OuterLaws::outer_past))]
 fn outer_rule(file: &[u8], at: usize) -> Checked
     ensures { result ≡ outer_rule site_tag (drop at file.now) }
 {
@@ -45,6 +47,7 @@ fn outer_rule(file: &[u8], at: usize) -> Checked
     front_rule(&file[at..])
 }
 
+#[tactic(auto, using(crate::proofs::OuterLaws::found_accepted, crate::proofs::OuterLaws::found_refused))]
 fn found_from(r: Read, at: usize, end: usize) -> Found
     ensures { (q : Result Site) → r ≡ read_of q → result ≡ found_of at (ending end q) }
 {
@@ -65,6 +68,7 @@ fn found_from(r: Read, at: usize, end: usize) -> Found
 }
 
 // The record whose outer field starts at `at`. Where no byte is left there, that is an outer field under 3 bytes.
+#[tactic(auto, using(crate::proofs::WalkLaws::rest_all, crate::proofs::OuterLaws::outer_inside, crate::proofs::OuterLaws::record_broken, crate::proofs::OuterLaws::record_walked, crate::proofs::Place::found_answers))]
 pub fn read_at(file: &[u8], at: usize) -> Found
     ensures answer { result ≡ record_at file.now at }
     ensures numbers { outcome_numbers result.outcome ≡ result_numbers (site_at file.now at) }
@@ -82,6 +86,7 @@ pub fn read_at(file: &[u8], at: usize) -> Found
     found_from(read_fields(&file[start..end], start), at, end)
 }
 
+#[tactic(auto, using(crate::proofs::OuterLaws::only_whole, crate::proofs::OuterLaws::only_more, crate::proofs::OuterLaws::only_refused))]
 fn only_one(x: Found, n: usize) -> Read
     ensures { (at : ℕ) (q : Result (Site × ℕ)) → x ≡ found_of at q → result ≡ read_of (only_one n q) }
 {
@@ -99,6 +104,7 @@ fn only_one(x: Found, n: usize) -> Read
 }
 
 // The single record of a file of at most one.
+#[tactic(auto, using(crate::proofs::OuterLaws::read_none, crate::proofs::OuterLaws::read_some, crate::proofs::RoundTrip::read_answers))]
 pub fn read_record(file: &[u8]) -> Read
     ensures answer { result ≡ read_record file.now }
     ensures numbers { outcome_numbers result.outcome ≡ result_numbers (only_site file.now) }

@@ -12,6 +12,7 @@ use output::put_bytes;
 use site::Site;
 
 // Tag and length of a field. Each of these functions returns the index after what it has written.
+#[tactic(auto, using(output::proofs::WritingLaws::stored, output::proofs::WritingLaws::and_stored, output::proofs::WritingLaws::ends_at))]
 pub fn put_head(buf: &mut [u8], at: usize, tag: u8, n: usize) -> usize
     requires { (at + 3 ≤ length buf.old) × (n < 65536) }
     ensures { Wrote buf.old at (tag ∷ (n / 256) ∷ (n % 256) ∷ []) buf.new result }
@@ -22,6 +23,7 @@ pub fn put_head(buf: &mut [u8], at: usize, tag: u8, n: usize) -> usize
     at + 3
 }
 
+#[tactic(auto, using(crate::proofs::EncodeLaws::field_wrote), unfolding(crate::specs::FieldParts::field_of))]
 fn put_field(buf: &mut [u8], at: usize, site: Site, tag: u8) -> usize
     requires { at + length (field_of tag (value tag site)) ≤ length buf.old }
     ensures { Wrote buf.old at (field_of tag (value tag site)) buf.new result }
@@ -33,6 +35,7 @@ fn put_field(buf: &mut [u8], at: usize, site: Site, tag: u8) -> usize
     put_bytes(buf, a, &bytes[..n])
 }
 
+#[tactic(auto, using(output::proofs::WritingLaws::nothing, output::proofs::WritingLaws::then, output::proofs::WritingLaws::room, output::proofs::WritingLaws::kept, output::proofs::EachLaws::each_more, output::proofs::EachLaws::each_fits, crate::proofs::EncodeLaws::field_at, crate::proofs::EncodeLaws::fields_each), unfolding(output::specs::Writing::each))]
 pub fn put_fields(buf: &mut [u8], at: usize, site: Site) -> usize
     requires { at + length (encode_fields site_kind due site) ≤ length buf.old }
     ensures { Wrote buf.old at (encode_fields site_kind due site) buf.new result }

@@ -26,6 +26,7 @@ fn at_most(n: u8, most: usize) -> usize
     most
 }
 
+#[tactic(auto, using(crate::proofs::ValueBytesLaws::name_bytes, crate::proofs::ValueBytesLaws::name_value_lem, site::proofs::PartLaws::take_min), unfolding(crate::proofs::ValueBytesLaws::name_bytes, site::specs::Bytes::tabulate))]
 fn name_value(name: [u8; 8], n: u8) -> ValueBytes
     ensures { Holds result.bytes result.len (take n name) }
 {
@@ -39,6 +40,7 @@ fn name_value(name: [u8; 8], n: u8) -> ValueBytes
     }
 }
 
+#[tactic(auto, using(crate::proofs::ValueBytesLaws::stand_value_lem, site::proofs::PartLaws::take_min, field::proofs::EntryLaws::length_entries), unfolding(field::specs::Field::entries_bytes, site::specs::Bytes::tabulate))]
 fn stand_value(stand: [Entry; 4], n: u8) -> ValueBytes
     ensures { Holds result.bytes result.len (entries_bytes (take n stand)) }
 {
@@ -113,6 +115,7 @@ fn two_words(x: u16, y: u16) -> ValueBytes
     ValueBytes { bytes, len: 4 }
 }
 
+#[tactic(auto, using(site::proofs::MatchLaws::none_below, crate::proofs::ValueBytesLaws::no_value), unfolding(field::specs::Field::value))]
 pub fn value_of(site: Site, tag: u8) -> ValueBytes
     ensures { Holds result.bytes result.len (value tag site) }
 {

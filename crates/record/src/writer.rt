@@ -20,6 +20,7 @@ fn body_len(name: u8, entries: u8) -> usize
 }
 
 // The record from `at` on; returns the index after it.
+#[tactic(auto, using(crate::proofs::EncodeLaws::encode_wrote))]
 fn put_record(buf: &mut [u8], at: usize, site: Site, body: usize) -> usize
     requires { (length (encode site) ≡ 3 + body) × (body ≤ 1344) × (at + length (encode site) ≤ length buf.old) }
     ensures { Wrote buf.old at (encode site) buf.new result }
@@ -29,6 +30,7 @@ fn put_record(buf: &mut [u8], at: usize, site: Site, body: usize) -> usize
 }
 
 // The record of the site at the front of the buffer; a refusal leaves the buffer as it is.
+#[tactic(auto, using(field::proofs::FieldValueLaws::unmapped, crate::proofs::EncodeLaws::record_length, crate::proofs::RecordWritten::write_broken, crate::proofs::RecordWritten::write_short, crate::proofs::RecordWritten::write_whole))]
 pub fn write_record(site: Site, buf: &mut [u8]) -> Written
     ensures answer { result ≡ write_answer (write_rule site (length buf.old)) (length (encode site)) }
     ensures buffer { buf.new ≡ held_after (write_rule site (length buf.old)) (encode site) buf.old }
