@@ -1,0 +1,19 @@
+-- After k fields the definition's walk over all of them goes on from the site so far, at the bytes that are left.
+use Rattle.std.proofs.Common.{◌≡◌, ◌+◌, sym, ◌∙◌, arith}
+use Rattle.site.specs.Values.{due}
+use Rattle.field.specs.Field.{site_kind}
+use Rattle.record.proofs.ResultLaws.{read_fault}
+use Rattle.record.proofs.WalkLaws.{walk_head, site_value}
+use Rattle.record.proofs.inner.read_fields.Goals as goal
+
+pub returns-in-Broken : goal.returns-in-Broken
+returns-in-Broken c =
+    let i = c.loop-k in
+    let broken = rw c.due_tag-tag.ensures at c.in-Broken.ensures in
+    c.refused_read.ensures ∙ sym (read_fault (i.invariant.2 ∙ walk_head site_kind due _ c.loop-k-test.true _ _ _ _ (sym broken)))
+
+pub returns-in-Broken-checked : goal.returns-in-Broken-checked
+returns-in-Broken-checked c =
+    let head = rw c.due_tag-tag.ensures at c.in-Passed.ensures in
+    let x = rw c.due_tag-tag.ensures at c.take_field-x.ensures.answer in
+    ?
