@@ -10,6 +10,7 @@ use loads::{LevelAnswer, LimitAnswer, Searched, aluminium_limit, greatest_level}
 use site::Site;
 
 // The greatest allowed level of a site, and how many levels were compared with its aluminium limit; or the first rule that it breaks.
+#[tactic(auto, using(loads::proofs::LimitAnswers::limit_given, crate::proofs::SiteLevelLaws::search_at, crate::proofs::SiteLevelLaws::level_promise))]
 pub fn level_at(site: Site) -> LevelAnswer
     ensures answer { result ≡ site_level site }
     ensures values { level_values result ≡ values_if (site_rule site) (level_numbers (terms_of site)) }

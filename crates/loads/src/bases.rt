@@ -43,7 +43,7 @@ fn bases_left(b: u64, q: u64, weathered: u64, available: u64, demand: u64, ratio
 }
 
 // Of a site, with the sum of the bases in its stand at hand
-#[tactic(auto, using(crate::proofs::SiteTermLaws::weathering_is, crate::proofs::SiteTermLaws::available_is, crate::proofs::SiteTermLaws::demand_is, crate::proofs::SiteTermLaws::uptake_is, crate::proofs::SiteTermLaws::supply_is, crate::proofs::SiteTermLaws::limit_is, crate::proofs::SiteTermLaws::part_bounds))]
+#[tactic(auto, using(crate::proofs::SiteTermLaws::weathering_is, crate::proofs::SiteTermLaws::available_is, crate::proofs::SiteTermLaws::demand_is, crate::proofs::SiteTermLaws::uptake_is, crate::proofs::SiteTermLaws::supply_is, crate::proofs::SiteTermLaws::limit_is))]
 pub fn bases_at(s: Site, sum: u64) -> Bases
     requires { Bounds s × BaseSum s sum }
     ensures { (result.supply ≡ (terms_of s).supply) × (result.limit ≡ (terms_of s).A) }
@@ -72,7 +72,7 @@ fn limit_at(s: Site) -> u64
 }
 
 // The aluminium limit of a site, or the first rule that it breaks.
-#[tactic(auto, using(site::proofs::BoundsLaw::bounds, crate::proofs::LimitAnswers::limit_promise), unfolding(crate::specs::Limits::limit_answer, site::specs::ByCheck::answer_if))]
+#[tactic(auto, using(site::proofs::BoundsLaw::bounds), unfolding(crate::specs::Limits::limit_answer, site::specs::ByCheck::answer_if))]
 pub fn aluminium_limit(site: Site) -> LimitAnswer
     ensures answer { result ≡ limit_answer site }
     ensures values { limit_values result ≡ values_if (site_rule site) ((terms_of site).A ∷ []) }

@@ -45,7 +45,6 @@ fn with_nitrogen(max_s: u64, min_n: u64, leached: u64, e: u64) -> Loads
     }
 }
 
-#[tactic(auto, using(crate::proofs::TermLaws::loads_by, crate::proofs::SiteTermLaws::leaching_is))]
 fn loads_of(s: Site) -> Loads
     requires { Bounds s }
     ensures { result ≡ loads_of (terms_of s) }
@@ -60,7 +59,7 @@ fn loads_of(s: Site) -> Loads
 }
 
 // The loads of a site, or the first rule that it breaks.
-#[tactic(auto, using(site::proofs::BoundsLaw::bounds, crate::proofs::LoadsAnswers::loads_promise), unfolding(crate::specs::CriticalLoads::loads_answer, site::specs::ByCheck::answer_if))]
+#[tactic(auto, using(site::proofs::BoundsLaw::bounds), unfolding(crate::specs::CriticalLoads::loads_answer, site::specs::ByCheck::answer_if))]
 pub fn critical_loads(site: Site) -> LoadsAnswer
     ensures answer { result ≡ loads_answer site }
     ensures values { loads_values result ≡ values_if (site_rule site) (cl_max_s (terms_of site) ∷ cl_min_n (terms_of site) ∷ cl_max_n (terms_of site) ∷ cl_nut_n (terms_of site) ∷ []) }

@@ -20,7 +20,7 @@ fn aluminium_at(q: u64, k: u64, h: u64) -> u64
 }
 
 // The greatest allowed level, from the ceiling down: low is the greatest level known allowed, high the least known not.
-#[tactic(auto, using(crate::proofs::SearchLaws::search_starts, crate::proofs::SearchLaws::search_raises, crate::proofs::SearchLaws::search_lowers, crate::proofs::SearchLaws::search_fits, crate::proofs::SearchLaws::search_ends, crate::proofs::SearchLaws::search_at_once))]
+#[tactic(auto, using(crate::proofs::SearchLaws::search_at_once))]
 fn search(q: u64, k: u64, limit: u64, ceiling: u64) -> Searched
     requires { Levels q k ceiling }
     ensures { result ≡ searched_of q k limit ceiling }
@@ -75,7 +75,7 @@ fn level_rule(q: u16, k: u16, ceiling: u16) -> Checked
 }
 
 // The greatest allowed level for percolation q, gibbsite constant k, aluminium limit and hydrogen ceiling, and how many levels were compared.
-#[tactic(auto, using(crate::proofs::LevelAnswers::level_passed, crate::proofs::LevelAnswers::level_promise), unfolding(crate::specs::Search::level_answer, site::specs::ByCheck::answer_if))]
+#[tactic(auto, using(crate::proofs::LevelAnswers::level_passed), unfolding(crate::specs::Search::level_answer, site::specs::ByCheck::answer_if))]
 pub fn greatest_level(q: u16, k: u16, limit: u64, ceiling: u16) -> LevelAnswer
     ensures answer { result ≡ level_answer q k limit ceiling }
     ensures values { level_values result ≡ values_if (level_rule q k ceiling) (level_of q k limit ceiling ∷ length (compared_of q k limit ceiling) ∷ []) }

@@ -51,7 +51,7 @@ fn weighed(entry: Entry) -> Sums
 }
 
 // the same over the entries
-#[tactic(auto, using(crate::proofs::UptakeLaws::sum_none, crate::proofs::UptakeLaws::sum_more))]
+#[tactic(auto, using(crate::proofs::UptakeLaws::sum_none))]
 pub fn stand_sums(stand: [Entry; 4], entries: usize) -> Sums
     requires { StandBounds stand entries }
     ensures { Summed stand entries result.nitrogen result.base }
