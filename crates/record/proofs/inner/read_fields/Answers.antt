@@ -8,12 +8,13 @@ use Rattle.record.proofs.inner.read_fields.Goals as goal
 
 pub returns-in-Broken : goal.returns-in-Broken
 returns-in-Broken c =
-    let i = c.loop-k in
-    let broken = rw c.due_tag-tag.ensures at c.in-Broken.ensures in
-    c.refused_read.ensures ∙ sym (read_fault (i.invariant.2 ∙ walk_head site_kind due _ c.loop-k-test.true _ _ _ _ (sym broken)))
+    let broken = sym (rw c.due_tag-tag.ensures at c.in-Broken.ensures) in
+    c.refused_read.ensures ∙ sym (read_fault (c.loop-k.invariant.2 ∙ walk_head site_kind due _ c.loop-k-test.true _ _ _ _ broken))
 
 pub returns-in-Broken-checked : goal.returns-in-Broken-checked
 returns-in-Broken-checked c =
-    let head = rw c.due_tag-tag.ensures at c.in-Passed.ensures in
+    let head = sym (rw c.due_tag-tag.ensures at c.in-Passed.ensures) in
     let x = rw c.due_tag-tag.ensures at c.take_field-x.ensures.answer in
-    ?
+    c.refused_read-in-Broken-checked.ensures
+    ∙ sym (read_fault (c.loop-k.invariant.2
+    ∙ site_value due _ c.loop-k-test.true _ _ _ head _ _ (omega arith) x _ c.in-Broken-checked.is))
