@@ -11,6 +11,7 @@ import sys
 
 ROOT = pathlib.Path(sys.argv[1] if len(sys.argv) > 1 else ".")
 NAME = re.compile(r"[A-Za-z0-9_'₀-₉≡≤≢∷⊎ℕ][A-Za-z0-9_'₀-₉≡≤≢∷⊎ℕ\-]*")
+STRING = re.compile(r'"[^"\n]*"|[^"]+|"')
 
 # Names whose plain spelling is taken: by a field of the code (maxS and the other loads), or by a lemma about the word.
 OWN = {
@@ -105,7 +106,7 @@ def main():
         print(f"{old} {new}")
     if clash:
         sys.exit("fall together:\n" + "\n".join(clash))
-    swap = lambda text: NAME.sub(lambda m: names.get(m.group(), m.group()), text)
+    swap = lambda text: STRING.sub(lambda m: m.group() if m.group().startswith('"') else NAME.sub(lambda n: names.get(n.group(), n.group()), m.group()), text)
     for pattern in ("crates/*/specs/**/*.antt", "crates/*/proofs/**/*.antt", "crates/*/src/**/*.rt", "crates/*/must-fail/*.edit"):
         for path in ROOT.glob(pattern):
             old = path.read_text()
