@@ -13,6 +13,7 @@ use record::{Outcome, read_at};
 use site::{Rule, Site};
 use text::Row;
 
+#[tactic(auto, unfolding(text::specs::Line::blank_row))]
 fn blank_row() -> Row
     ensures { result ≡ blank_row }
 {
@@ -31,6 +32,7 @@ fn blank_row() -> Row
     }
 }
 
+#[tactic(auto, unfolding(crate::specs::Rows::row_by))]
 fn row_by(site: Site, judged: Judged) -> Row
     ensures { result ≡ row_by site judged }
 {
@@ -45,6 +47,7 @@ fn row_by(site: Site, judged: Judged) -> Row
     }
 }
 
+#[tactic(auto, using(crate::proofs::StepLaws::step_refused, crate::proofs::StepLaws::judged, crate::proofs::StepLaws::step_accepted))]
 fn step(file: &[u8], at: usize) -> Step
     ensures { result ≡ step_of (record_at file.now at) }
 {
@@ -77,6 +80,7 @@ fn step(file: &[u8], at: usize) -> Step
     }
 }
 
+#[tactic(auto, unfolding(crate::specs::Rows::walked_of, crate::specs::Rows::padded))]
 fn refused_rows(rule: Rule, at: usize) -> Walked
     ensures { result ≡ walked_of (fault rule at) }
 {
@@ -91,6 +95,7 @@ fn refused_rows(rule: Rule, at: usize) -> Walked
 }
 
 // The rows of a file, or its first fault.
+#[tactic(auto, using(record::proofs::SiteFile::sites_none, crate::proofs::LoopLaws::so_start, crate::proofs::LoopLaws::so_end, crate::proofs::LoopLaws::so_full, crate::proofs::LoopLaws::step_bad, crate::proofs::LoopLaws::step_good, crate::proofs::LoopLaws::step_on, crate::proofs::LoopLaws::with_numbers, crate::proofs::LoopLaws::with_fault), unfolding(crate::specs::Rows::padded))]
 pub fn walk_file(file: &[u8]) -> Walked
     ensures answer { result ≡ walked_of (contents file.now) }
     ensures numbers { outcome_numbers result.outcome ≡ result_numbers (contents file.now) }
