@@ -14,7 +14,7 @@ use Rattle.field.specs.Clean.{clean, Sized, AllBytes}
 use Rattle.record.specs.declared.Read.{Read}
 use Rattle.record.specs.declared.Outcome.{Outcome}
 use Rattle.record.specs.declared.Outcome.TheVariants.{Accepted, Refused}
-use Rattle.record.specs.Result.{good, fault, result_numbers}
+use Rattle.record.specs.Result.{good, result_numbers}
 use Rattle.record.specs.ReadAnswers.{accepted}
 use Rattle.record.specs.Records.{most_record, record_in}
 use Rattle.record.specs.Outer.{outcome_numbers, site_tag, site_kinds, site_at, only_site, read_record}

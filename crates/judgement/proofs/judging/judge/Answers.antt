@@ -1,5 +1,5 @@
 -- The loads, refused or given, are those of the site's terms; the promise of the answer is a law.
-use Rattle.std.proofs.Common.{◌≡◌, ◌≤◌, sym, ◌∙◌}
+use Rattle.std.proofs.Common.{◌≡◌, ◌≤◌, sym}
 use Rattle.site.specs.Check.{site_rule}
 use Rattle.site.specs.ByCheck.{answer_if}
 use Rattle.site.specs.declared.Site.{Site}

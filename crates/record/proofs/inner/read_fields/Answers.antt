@@ -1,5 +1,5 @@
 -- After k fields the definition's walk over all of them goes on from the site so far, at the bytes that are left.
-use Rattle.std.proofs.Common.{◌≡◌, ◌+◌, sym, ◌∙◌, arith}
+use Rattle.std.proofs.Common.{sym, ◌∙◌, arith}
 use Rattle.site.specs.Values.{due}
 use Rattle.field.specs.Field.{site_kind}
 use Rattle.record.proofs.ResultLaws.{read_fault}

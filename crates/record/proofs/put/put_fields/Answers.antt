@@ -1,5 +1,5 @@
 -- The first k fields stand in the buffer, one after another.
-use Rattle.std.proofs.Common.{get_or, arith, rules}
+use Rattle.std.proofs.Common.{get_or, arith}
 use Rattle.site.specs.Values.{due}
 use Rattle.field.specs.Field.{site_kind}
 use Rattle.output.proofs.WritingLaws.{then, room, kept}

@@ -1,5 +1,5 @@
 -- The bytes of four entries, of which the first n are the value.
-use Rattle.std.proofs.Common.{◌≡◌, ℕ, ◌*◌, ◌≤◌, List, length, take, ap, sym, ◌∙◌, arith, rules}
+use Rattle.std.proofs.Common.{◌≡◌, ℕ, ◌*◌, List, length, take, ap, sym, ◌∙◌, arith, rules}
 use Rattle.std.proofs.Math.Seq.{length-take-le}
 use Rattle.site.specs.declared.Entry.{Entry}
 use Rattle.site.specs.Bytes.{tabulate}
