@@ -65,7 +65,7 @@ unfolding verdict_of
 within_where a {n} e z = rw (e, z)
 
 greatest_allowed : (t : Terms) → Allowed t (greatest_level t)
-greatest_allowed t = record { ceiling = greatest_ceiling t; aluminium_limit_lem = greatest_limit t }
+greatest_allowed t = record { ceiling = greatest_ceiling t; aluminium_limit = greatest_limit t }
 
 module _ (t : Terms) (b : TermBounds t) where
   pub nutrient_iff : (N : ℕ) → (nutrient_exceedance t N ≡ 0) ↔ (t.e * (N - cl_min_n t) ≤ 1000 * t.L)
@@ -80,7 +80,7 @@ module _ (t : Terms) (b : TermBounds t) where
         let m = cl_min_n t in
         let rest : N - m ≤ N - k.u - k.i = omega (arith, cl_min_n_is t, k.taken_up, k.immobilised) in
         let left : t.e * (N - m) ≤ t.e * (N - k.u - k.i) = mul-le-mul_left t.e rest in
-        let most = cl_max_s_greatest t k.h k.allowed.ceiling k.allowed.aluminium_limit_lem in (
+        let most = cl_max_s_greatest t k.h k.allowed.ceiling k.allowed.aluminium_limit in (
           closes_zero S N (cl_max_s t) m t.e (omega (arith, left, k.acid_balance, most)),
           (nutrient_iff N).1 (le_trans left k.nitrogen_balance),
         )

@@ -9,7 +9,7 @@ use Rattle.judgement.specs.Verdicts.{within, over}
 -- a hydrogen level that neither critical limit forbids
 pub record Allowed (t : Terms) (h : ℕ) : Type 0 where
   pub ceiling : h ≤ t.H
-  pub aluminium_limit_lem : aluminium t h ≤ t.A
+  pub aluminium_limit : aluminium t h ≤ t.A
 
 -- Whole amounts u taken up and i immobilised, and an allowed hydrogen level h, with which both balances close at the deposition S, N.
 pub record Closes (t : Terms) (S N : ℕ) : Type 0 where
