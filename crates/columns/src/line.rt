@@ -16,7 +16,7 @@ pub fn put_header(out: &mut [u8], at: usize) -> usize
     put_bytes(
         out,
         at,
-        b"id          cl_max_s    cl_min_n    cl_max_n    nutNre acidEx  nutExverdict \n",
+        b"id          maxS    minN    maxN    nutNre acidEx  nutExverdict \n",
     )
 }
 

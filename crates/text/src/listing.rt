@@ -62,7 +62,7 @@ pub fn put_listing(out: &mut [u8], rows: [Row; 500], count: usize) -> Written
     let at = put_bytes(
         out,
         0,
-        b"id cl_max_s cl_min_n cl_max_n cl_nut_n region acidEx nutEx verdict\n",
+        b"id maxS minN maxN nutN region acidEx nutEx verdict\n",
     );
     let end = put_lines(out, at, rows, n);
     Written::Count(end)
