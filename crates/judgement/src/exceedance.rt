@@ -7,6 +7,7 @@ ghost use Rattle.judgement.specs.Regions.{D, excess, acid_in};
 use crate::Region;
 
 // x / d, up
+#[tactic(auto, unfolding(loads::specs::Rounding::up))]
 fn up_by(x: u64, d: u64) -> u64
     requires { (0 < d) × (x + d < 1000000000000) }
     ensures { (result ≡ up x d) × (result ≤ 1000000000000) }
@@ -23,6 +24,7 @@ fn acid_no_sulphur(s: u64, left: u64, c: u64, e: u64) -> u64
 }
 
 // Region 2.
+#[tactic(auto, using(loads::proofs::Numbers::prod), unfolding(crate::specs::Regions::D, crate::specs::Regions::excess))]
 fn acid_slope(s: u64, left: u64, c: u64, e: u64) -> u64
     requires { LeftBounds s left e × (1000 * c ≤ 1000 * s + e * left) }
     ensures { result ≡ up ((1000 + e) * excess s c e left) (D e) }
@@ -34,6 +36,7 @@ fn acid_slope(s: u64, left: u64, c: u64, e: u64) -> u64
 }
 
 // The acid exceedance of a pair in its region.
+#[tactic(auto, unfolding(crate::specs::Regions::acid_in))]
 pub fn acid_in(region: Region, s: u64, n: u64, c: u64, m: u64, e: u64) -> u64
     requires { Own region s n c m e }
     ensures { result ≡ acid_in region s n c m e }

@@ -17,6 +17,7 @@ use numbers::wide16;
 use site::Site;
 
 // Within needs region 0 and nutrient exceedance 0.
+#[tactic(auto, unfolding(crate::specs::Verdicts::verdict_of))]
 fn verdict_from(region: Region, acid: u64, nutrient: u64) -> Verdict
     ensures { result ≡ verdict_of region acid nutrient }
 {
@@ -38,6 +39,7 @@ fn verdict_from(region: Region, acid: u64, nutrient: u64) -> Verdict
 }
 
 // The verdict on the pair s, n from the loads and e.
+#[tactic(auto, unfolding(crate::specs::Regions::acid_of))]
 fn verdict_at(l: Loads, e: u64, s: u16, n: u16) -> Verdict
     requires { (l.max_s ≤ most_max_s) × (1 ≤ e) × (e ≤ 1000) }
     ensures { result ≡ verdict_of (region_of s n l.max_s l.min_n e) (acid_of s n l.max_s l.min_n e) (n - l.nut_n) }

@@ -17,6 +17,7 @@ pub fn region_number(region: Region) -> u64
     }
 }
 
+#[tactic(auto, using(crate::proofs::RegionLaws::sizes, crate::proofs::RegionLaws::rest_zero, crate::proofs::RegionLaws::closes_zero, crate::proofs::RegionLaws::is_four, crate::proofs::RegionLaws::is_three, crate::proofs::RegionLaws::is_one, crate::proofs::RegionLaws::is_two), unfolding(crate::specs::Regions::D, crate::specs::Regions::excess))]
 pub fn region_of(s: u64, n: u64, c: u64, m: u64, e: u64) -> Region
     requires { PairBounds s n c e }
     ensures { result ≡ region_of s n c m e }

@@ -6,6 +6,7 @@ use numbers::{byte, word_at};
 use sampler::{Month, Reading};
 
 // A NaN cannot be made from its bits, and is a quotient instead.
+#[tactic(auto, using(crate::proofs::FloatByteLaws::zero_by_zero, crate::proofs::FloatByteLaws::not_a_number, crate::proofs::FloatByteLaws::a_number), unfolding(crate::specs::MonthBytes::float_at))]
 fn float_at(b: &[u8], i: usize) -> f32
     requires { i ≤ 204 }
     ensures { result ≡ float_at b.now i }
@@ -18,6 +19,7 @@ fn float_at(b: &[u8], i: usize) -> f32
     f32::from_bits(bits)
 }
 
+#[tactic(auto, unfolding(crate::specs::MonthBytes::reading_at))]
 fn reading_at(b: &[u8], i: usize) -> Reading
     requires { i ≤ 200 }
     ensures { result ≡ reading_at b.now i }
@@ -31,6 +33,7 @@ fn reading_at(b: &[u8], i: usize) -> Reading
     }
 }
 
+#[tactic(auto, unfolding(crate::specs::MonthBytes::month_at))]
 fn month_at(b: &[u8], i: usize) -> Month
     requires { i ≤ 187 }
     ensures { result ≡ month_at b.now i }
@@ -47,6 +50,7 @@ fn month_at(b: &[u8], i: usize) -> Month
     }
 }
 
+#[tactic(auto, unfolding(site::specs::Bytes::tabulate))]
 pub fn months_in(b: &[u8]) -> [Month; 12]
     ensures { result ≡ months_in b.now }
 {

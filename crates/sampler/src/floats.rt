@@ -28,6 +28,7 @@ fn scaled(q: u64, s: u64) -> u64
 }
 
 // The number that the bits stand for without their sign, × 1000, up. An exponent of 0 has no hidden bit.
+#[tactic(auto, using(crate::proofs::BitsLaws::up_units))]
 fn scaled_bits(b: u64) -> u64
     requires { exponent b ≤ 149 }
     ensures { result ≡ up (1000 * units b) (2 ^ 149) }

@@ -15,6 +15,7 @@ use judgement::{JudgementAnswer, judge};
 use site::{Checked, Rule, Site, check_site};
 
 // The site with the pair put into its field 0F.
+#[tactic(auto, unfolding(crate::specs::SampleAnswers::with_pair))]
 fn with_pair(site: Site, sulphur: u16, nitrogen: u16) -> Site
     ensures { result ≡ with_pair site sulphur nitrogen }
 {
@@ -24,6 +25,7 @@ fn with_pair(site: Site, sulphur: u16, nitrogen: u16) -> Site
     s
 }
 
+#[tactic(auto, unfolding(crate::specs::SampleAnswers::keyed))]
 fn judge_pair(site: Site, sulphur: u16, nitrogen: u16) -> SampleAnswer
     ensures { result ≡ keyed sulphur nitrogen (judgement_answer (with_pair site sulphur nitrogen)) }
 {
@@ -41,6 +43,7 @@ fn judge_pair(site: Site, sulphur: u16, nitrogen: u16) -> SampleAnswer
 }
 
 // A refusal that comes after the checks of the site.
+#[tactic(auto, unfolding(site::specs::ByCheck::answer_if))]
 pub fn refuse_checked(site: Site, rule: Rule, at: usize) -> SampleAnswer
     ensures { result ≡ checked_first (site_rule site) (SampleAnswer.Refused rule at) }
 {

@@ -37,6 +37,7 @@ fn brought(rain: u64, s: u64, n: u64, a: u64) -> Deposition
 }
 
 // The first of sulphate, nitrate and ammonium that is refused, or what they bring.
+#[tactic(auto, unfolding(site::specs::Refusal::and_then))]
 fn combined(rain: u64, s: Concentration, n: Concentration, a: Concentration) -> Deposition
     requires { (rain ≤ most_rain) × (micrograms s ≤ most_micrograms) × (micrograms n ≤ most_micrograms) × (micrograms a ≤ most_micrograms) }
     ensures { result ≡ deposition_by (readings_rule s n a) (rain * micrograms s) (rain * (micrograms n + micrograms a)) }
@@ -53,6 +54,7 @@ fn combined(rain: u64, s: Concentration, n: Concentration, a: Concentration) -> 
     }
 }
 
+#[tactic(auto, unfolding(crate::specs::MonthRules::month_rule, site::specs::Refusal::and_then, crate::specs::MonthRules::sulphur_of, crate::specs::MonthRules::nitrogen_of))]
 pub fn month_deposition(m: Month) -> Deposition
     ensures { result ≡ deposition_of m }
 {

@@ -14,6 +14,7 @@ pub enum Year {
 }
 
 // The sums of the year in µg per square metre, divided, up.
+#[tactic(auto, unfolding(loads::specs::Rounding::up))]
 fn divided(s: u64, n: u64) -> Year
     requires { (s ≤ most_sum) × (n ≤ most_sum) }
     ensures { result ≡ divided_pair s n }
