@@ -28,7 +28,7 @@ pub fn numbers(row: Row) -> [u64; 7]
 }
 
 // Writes a space and n.
-#[tactic(auto, using(output::proofs::WritingLaws::then, output::proofs::WritingLaws::stored), unfolding(crate::specs::Line::column, crate::specs::Line::spaced))]
+#[tactic(auto, unfolding(crate::specs::Line::column, crate::specs::Line::spaced))]
 fn put_number(out: &mut [u8], at: usize, n: u64) -> usize
     requires { at + length (column n) ≤ length out.old }
     ensures { Wrote out.old at (column n) out.new result }
@@ -38,7 +38,7 @@ fn put_number(out: &mut [u8], at: usize, n: u64) -> usize
 }
 
 // Writes the numbers, each after a space.
-#[tactic(auto, using(output::proofs::WritingLaws::nothing, output::proofs::WritingLaws::then, output::proofs::WritingLaws::room, output::proofs::WritingLaws::kept, output::proofs::EachLaws::each_more, output::proofs::EachLaws::each_fits), unfolding(output::specs::Writing::each))]
+#[tactic(auto, using(output::proofs::WritingLaws::nothing), unfolding(output::specs::Writing::each))]
 pub fn put_numbers(out: &mut [u8], at: usize, ns: [u64; 7]) -> usize
     requires { at + length (each column ns) ≤ length out.old }
     ensures { Wrote out.old at (each column ns) out.new result }

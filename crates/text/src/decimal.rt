@@ -24,7 +24,7 @@ pub fn width(n: u64) -> usize
 }
 
 // Writes n at index at, the last digit first, and returns the index after it; where it does not fit, nothing is written.
-#[tactic(auto, using(output::proofs::WritingLaws::wrote_none, output::proofs::WritingLaws::wrote_some, crate::proofs::DecimalLaws::partly_none, crate::proofs::DecimalLaws::partly_more, crate::proofs::DecimalLaws::partly_all))]
+#[tactic(auto, using(output::proofs::WritingLaws::wrote_none, crate::proofs::DecimalLaws::partly_none))]
 pub fn put_decimal(out: &mut [u8], at: usize, n: u64) -> usize
     ensures { WroteIf out.old at (decimal n) out.new result }
 {

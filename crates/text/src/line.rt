@@ -64,7 +64,7 @@ pub fn line_len(row: Row) -> usize
     n + a + m + 2
 }
 
-#[tactic(auto, using(output::proofs::WritingLaws::then, output::proofs::WritingLaws::stored), unfolding(crate::specs::Line::spaced, crate::specs::Line::line, crate::specs::Line::body))]
+#[tactic(auto, unfolding(crate::specs::Line::spaced, crate::specs::Line::line, crate::specs::Line::body))]
 pub fn put_line(out: &mut [u8], at: usize, row: Row) -> usize
     requires { at + length (line row) ≤ length out.old }
     ensures { Wrote out.old at (line row) out.new result }

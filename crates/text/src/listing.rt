@@ -29,7 +29,7 @@ fn lines_len(rows: [Row; 500], count: usize) -> usize
 }
 
 // Writes the lines of the first count rows.
-#[tactic(auto, using(output::proofs::WritingLaws::nothing, output::proofs::WritingLaws::then, output::proofs::WritingLaws::room, output::proofs::WritingLaws::kept, output::proofs::EachLaws::each_room, crate::proofs::LineLaws::lines_more), unfolding(output::specs::Writing::each))]
+#[tactic(auto, using(output::proofs::WritingLaws::nothing), unfolding(output::specs::Writing::each))]
 fn put_lines(out: &mut [u8], at: usize, rows: [Row; 500], count: usize) -> usize
     requires count_bound { count ≤ 500 }
     requires rows_in_bounds { at + length (each line (take count rows)) ≤ length out.old }
@@ -45,7 +45,7 @@ fn put_lines(out: &mut [u8], at: usize, rows: [Row; 500], count: usize) -> usize
 }
 
 // Writes the listing of the first count rows at the start of out. A buffer that is too short stays as it is.
-#[tactic(auto, using(site::proofs::PartLaws::take_min, output::proofs::WritingLaws::then, output::proofs::WritingLaws::room, crate::proofs::MarkLaws::and_marked, crate::proofs::TextAnswers::text_refused, crate::proofs::TextAnswers::text_printed), unfolding(crate::specs::Listing::listing, crate::specs::Listing::header, crate::specs::Listing::head_text))]
+#[tactic(auto, using(site::proofs::PartLaws::take_min, output::proofs::WritingLaws::room))]
 pub fn put_listing(out: &mut [u8], rows: [Row; 500], count: usize) -> Written
     ensures answer { result ≡ text_answer (listing (take count rows)) out.old }
     ensures buffer { out.new ≡ held (listing (take count rows)) out.old }

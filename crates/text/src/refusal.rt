@@ -9,7 +9,6 @@ use output::{Written, put_bytes};
 use site::{Rule, rule_number};
 
 // Writes the line `refused N at M` at the start of out. A buffer that is too short stays as it is.
-#[tactic(auto, using(output::proofs::WritingLaws::then, output::proofs::WritingLaws::stored, crate::proofs::LineLaws::refusal_is, crate::proofs::TextAnswers::as_clauses, crate::proofs::TextAnswers::text_refused, crate::proofs::TextAnswers::text_printed), unfolding(crate::specs::RefusalLine::refused_line, crate::specs::RefusalLine::refused_word, crate::specs::RefusalLine::at_word))]
 pub fn put_refusal(out: &mut [u8], rule: Rule, at: usize) -> Written
     ensures answer { result ≡ text_answer (refusal rule at) out.old }
     ensures buffer { out.new ≡ held (refusal rule at) out.old }

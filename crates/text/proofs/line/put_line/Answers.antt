@@ -1,5 +1,5 @@
 -- Each call writes the next part of the line, for which the line's length leaves room.
-use Rattle.std.proofs.Common.{◌≡◌, ℕ, ◌+◌, ◌≤◌, List, length, ap, arith}
+use Rattle.std.proofs.Common.{ℕ, List, length, ap, arith}
 use Rattle.output.specs.Writing.{Wrote, each}
 use Rattle.text.specs.Line.{name_text, column, body, line}
 use Rattle.output.proofs.WritingLaws.{then, stored}

@@ -1,5 +1,5 @@
 -- The header and the lines are put one after another, and their lengths add up to what was asked of the buffer.
-use Rattle.std.proofs.Common.{◌≡◌, ◌≤◌, ℕ, min, List, length, take, ap, arith, rules}
+use Rattle.std.proofs.Common.{◌≡◌, ℕ, min, List, length, take, ap, arith, rules}
 use Rattle.site.proofs.PartLaws.{take_min}
 use Rattle.text.specs.declared.Row.{Row}
 use Rattle.output.specs.Writing.{Wrote, each}
