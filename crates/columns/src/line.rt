@@ -10,6 +10,7 @@ use output::put_bytes;
 use text::{Row, name_len, numbers};
 
 // Writes the header's line, and returns the index after it; where it does not fit, nothing is written.
+#[tactic(auto, using(crate::proofs::PageLineLaws::head_bytes))]
 pub fn put_header(out: &mut [u8], at: usize) -> usize
     ensures { WroteIf out.old at (ended head_line) out.new result }
 {
@@ -21,6 +22,7 @@ pub fn put_header(out: &mut [u8], at: usize) -> usize
 }
 
 // The mark, the space at the end and 0A.
+#[tactic(auto, unfolding(judgement::specs::Verdicts::verdict_word, crate::specs::PageLine::right_in))]
 fn put_mark(out: &mut [u8], at: usize, v: Verdict) -> usize
     requires { at + 9 ≤ length out.old }
     ensures { Wrote out.old at (right_in 7 (verdict_word v) ++ (32 ∷ []) ++ (10 ∷ [])) out.new result × (result ≡ at + 9) }
@@ -35,6 +37,7 @@ fn put_mark(out: &mut [u8], at: usize, v: Verdict) -> usize
     }
 }
 
+#[tactic(auto, using(output::proofs::WritingLaws::then, crate::proofs::PageLineLaws::left_short))]
 fn put_name(out: &mut [u8], at: usize, name: &[u8]) -> usize
     requires { (at + 8 ≤ length out.old) × (length name.now ≤ 8) }
     ensures { Wrote out.old at (left_in 8 name.now) out.new result × (result ≡ at + 8) }
@@ -44,6 +47,7 @@ fn put_name(out: &mut [u8], at: usize, name: &[u8]) -> usize
 }
 
 // How wide the column of number k is: a load, the region or an exceedance.
+#[tactic(auto, unfolding(crate::specs::PageLine::number_width))]
 fn number_width(k: usize) -> usize
     ensures { result ≡ number_width k }
 {
@@ -56,6 +60,7 @@ fn number_width(k: usize) -> usize
     7
 }
 
+#[tactic(auto, using(output::proofs::WritingLaws::nothing, output::proofs::WritingLaws::then, output::proofs::WritingLaws::kept, crate::proofs::PageLineLaws::columns_room, crate::proofs::PageLineLaws::columns_whole), unfolding(crate::specs::PageLine::number_columns))]
 fn put_numbers(out: &mut [u8], at: usize, ns: [u64; 7]) -> usize
     requires { at + 48 ≤ length out.old }
     ensures { Wrote out.old at (number_columns ns 7) out.new result × (result ≡ at + 48) }
@@ -70,6 +75,7 @@ fn put_numbers(out: &mut [u8], at: usize, ns: [u64; 7]) -> usize
     o
 }
 
+#[tactic(auto, using(output::proofs::WritingLaws::then, crate::proofs::PageLineLaws::line_bytes, crate::proofs::PageLineLaws::seven_of), unfolding(crate::specs::PageLine::row_line, crate::specs::PageLine::row_texts))]
 fn put_line(out: &mut [u8], at: usize, row: Row) -> usize
     requires { at + 65 ≤ length out.old }
     ensures { Wrote out.old at (ended (row_line row)) out.new result }
@@ -84,6 +90,7 @@ fn put_line(out: &mut [u8], at: usize, row: Row) -> usize
 }
 
 // Writes a row's line, and returns the index after it; where it does not fit, nothing is written.
+#[tactic(auto, using(output::proofs::WritingLaws::wrote_none, output::proofs::WritingLaws::wrote_some, crate::proofs::PageLineLaws::length_row))]
 pub fn put_row(out: &mut [u8], at: usize, row: Row) -> usize
     ensures { WroteIf out.old at (ended (row_line row)) out.new result }
 {

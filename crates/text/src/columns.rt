@@ -8,6 +8,7 @@ use crate::decimal::{put_decimal, width};
 use judgement::{Verdict, region_number};
 
 // Those of a row: the loads, then region and exceedances, 0 0 0 where it is within.
+#[tactic(auto, unfolding(crate::specs::Line::numbers_of, loads::specs::CriticalLoads::load_numbers, judgement::specs::Verdicts::verdict_numbers))]
 pub fn numbers(row: Row) -> [u64; 7]
     ensures { result ≡ numbers_of row }
 {
@@ -27,6 +28,7 @@ pub fn numbers(row: Row) -> [u64; 7]
 }
 
 // Writes a space and n.
+#[tactic(auto, unfolding(crate::specs::Line::column, crate::specs::Line::spaced))]
 fn put_number(out: &mut [u8], at: usize, n: u64) -> usize
     requires { at + length (column n) ≤ length out.old }
     ensures { Wrote out.old at (column n) out.new result }
@@ -36,6 +38,7 @@ fn put_number(out: &mut [u8], at: usize, n: u64) -> usize
 }
 
 // Writes the numbers, each after a space.
+#[tactic(auto, using(output::proofs::WritingLaws::nothing), unfolding(output::specs::Writing::each))]
 pub fn put_numbers(out: &mut [u8], at: usize, ns: [u64; 7]) -> usize
     requires { at + length (each column ns) ≤ length out.old }
     ensures { Wrote out.old at (each column ns) out.new result }
@@ -50,6 +53,7 @@ pub fn put_numbers(out: &mut [u8], at: usize, ns: [u64; 7]) -> usize
 }
 
 // How many bytes put_numbers writes.
+#[tactic(auto, using(output::proofs::EachLaws::length_more), unfolding(output::specs::Writing::each, crate::specs::Line::column, crate::specs::Line::spaced))]
 pub fn numbers_len(ns: [u64; 7]) -> usize
     ensures { (result ≡ length (each column ns)) × (result ≤ 147) }
 {

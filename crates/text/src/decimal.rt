@@ -4,6 +4,7 @@ ghost use Rattle.text.specs.Decimal.{decimal};
 ghost use Rattle.output.specs.Writing.{WroteIf};
 
 // How many decimal digits n has: `bound` is 10 to the power k.
+#[tactic(auto, using(crate::proofs::DecimalLaws::length_below, crate::proofs::DecimalLaws::length_above, crate::proofs::DecimalLaws::length_u64, crate::proofs::DecimalLaws::power_mono))]
 pub fn width(n: u64) -> usize
     ensures { (result ≡ length (decimal n)) × (result ≤ 20) }
 {
@@ -23,6 +24,7 @@ pub fn width(n: u64) -> usize
 }
 
 // Writes n at index at, the last digit first, and returns the index after it; where it does not fit, nothing is written.
+#[tactic(auto, using(output::proofs::WritingLaws::wrote_none, crate::proofs::DecimalLaws::partly_none))]
 pub fn put_decimal(out: &mut [u8], at: usize, n: u64) -> usize
     ensures { WroteIf out.old at (decimal n) out.new result }
 {

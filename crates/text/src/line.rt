@@ -11,6 +11,7 @@ use judgement::Verdict;
 use output::put_bytes;
 
 // The length of a row's name: there are no bytes past the eighth.
+#[tactic(auto, using(site::proofs::PartLaws::take_min), unfolding(crate::specs::Line::name_text))]
 pub fn name_len(row: Row) -> usize
     ensures { (result ≤ 8) × (take result row.name ≡ name_text row) × (result ≡ length (name_text row)) }
 {
@@ -21,6 +22,7 @@ pub fn name_len(row: Row) -> usize
     }
 }
 
+#[tactic(auto, unfolding(judgement::specs::Verdicts::verdict_word))]
 fn mark_len(v: Verdict) -> usize
     ensures { (result ≡ length (verdict_word v)) × (result ≤ 6) }
 {
@@ -35,6 +37,7 @@ fn mark_len(v: Verdict) -> usize
 }
 
 // Writes a space and the mark.
+#[tactic(auto, unfolding(crate::specs::Line::spaced, judgement::specs::Verdicts::verdict_word))]
 fn put_mark(out: &mut [u8], at: usize, v: Verdict) -> usize
     requires { at + length (spaced (verdict_word v)) ≤ length out.old }
     ensures { Wrote out.old at (spaced (verdict_word v)) out.new result }
@@ -61,6 +64,7 @@ pub fn line_len(row: Row) -> usize
     n + a + m + 2
 }
 
+#[tactic(auto, unfolding(crate::specs::Line::spaced, crate::specs::Line::line, crate::specs::Line::body))]
 pub fn put_line(out: &mut [u8], at: usize, row: Row) -> usize
     requires { at + length (line row) ≤ length out.old }
     ensures { Wrote out.old at (line row) out.new result }

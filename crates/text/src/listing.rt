@@ -14,6 +14,7 @@ use output::{Written, put_bytes};
 use site::Rule;
 
 // How many bytes the lines of the first count rows have.
+#[tactic(auto, using(crate::proofs::LineLaws::length_lines_more), unfolding(output::specs::Writing::each))]
 fn lines_len(rows: [Row; 500], count: usize) -> usize
     requires { count ≤ 500 }
     ensures { (result ≡ length (each line (take count rows))) × (result ≤ most_lines) }
@@ -28,6 +29,7 @@ fn lines_len(rows: [Row; 500], count: usize) -> usize
 }
 
 // Writes the lines of the first count rows.
+#[tactic(auto, using(output::proofs::WritingLaws::nothing), unfolding(output::specs::Writing::each))]
 fn put_lines(out: &mut [u8], at: usize, rows: [Row; 500], count: usize) -> usize
     requires count_bound { count ≤ 500 }
     requires rows_in_bounds { at + length (each line (take count rows)) ≤ length out.old }
@@ -43,6 +45,7 @@ fn put_lines(out: &mut [u8], at: usize, rows: [Row; 500], count: usize) -> usize
 }
 
 // Writes the listing of the first count rows at the start of out. A buffer that is too short stays as it is.
+#[tactic(auto, using(site::proofs::PartLaws::take_min, output::proofs::WritingLaws::room))]
 pub fn put_listing(out: &mut [u8], rows: [Row; 500], count: usize) -> Written
     ensures answer { result ≡ text_answer (listing (take count rows)) out.old }
     ensures buffer { out.new ≡ held (listing (take count rows)) out.old }

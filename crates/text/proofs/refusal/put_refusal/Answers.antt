@@ -1,0 +1,29 @@
+-- The line's five parts are put one after another, and their lengths add up to what was asked of the buffer.
+use Rattle.std.proofs.Common.{arith}
+use Rattle.text.specs.RefusalLine.{refused_line, refused_word, at_word}
+use Rattle.output.proofs.WritingLaws.{then, stored}
+use Rattle.text.proofs.LineLaws.{length-refusal, refusal_is}
+use Rattle.text.proofs.TextAnswers.{text_refused, text_printed}
+use Rattle.text.proofs.refusal.put_refusal.Goals as goal
+
+pub returns-then-out-need : goal.returns-then-out-need
+returns-then-out-need c =
+    let l = length-refusal c.rule_number-number.result c.args.at in
+    let a = text_refused (refused_line c.rule_number-number.result c.args.at) c.args.out.now (omega arith) (omega arith) in
+    rw (← refusal_is c.args.rule c.args.at c.rule_number-number.ensures)
+    (record { answer = a.answer; buffer = a.buffer; numbers = a.numbers; enough = a.enough })
+
+pub returns : goal.returns
+unfolding refused_line refused_word at_word
+returns c =
+    let n = c.rule_number-number.result in
+    let at = c.args.at in
+    let l = length-refusal n at in
+    let first = c.put_bytes-a.ensures.fits (omega arith) in
+    let number = c.put_decimal-b.ensures.fits (omega (arith, first.next)) in
+    let word = c.put_bytes-c.ensures.fits (omega (arith, first.next, number.next)) in
+    let offset = c.put_decimal-d.ensures.fits (omega (arith, first.next, number.next, word.next)) in
+    let w = then (then (then (then first number) word) offset) (stored c.put_decimal-d.new.out c.put_decimal-d.result 10) in
+    let a = text_printed (refused_line n at) w (omega arith) (omega arith) in
+    rw (← refusal_is c.args.rule at c.rule_number-number.ensures)
+    (record { answer = a.answer; buffer = a.buffer; numbers = a.numbers; enough = a.enough })
