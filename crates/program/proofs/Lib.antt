@@ -1,3 +1,4 @@
 pub mod ShownLaws
 pub mod ReaderLaws
+pub mod KnownLaws
 pub mod PrintingLaws
