@@ -7,7 +7,7 @@ ghost use Rattle.columns.specs.PageLine.{right_in};
 use output::put_bytes;
 use text::put_decimal;
 
-#[tactic(auto, using(output::proofs::WritingLaws::nothing, output::proofs::WritingLaws::and_stored, output::proofs::WritingLaws::ends_at))]
+#[tactic(auto, using(output::proofs::WritingLaws::nothing, output::proofs::WritingLaws::ends_at))]
 pub fn put_spaces(out: &mut [u8], at: usize, count: usize) -> usize
     requires { at + count ≤ length out.old }
     ensures { Wrote out.old at (replicate count 32) out.new result }
@@ -21,7 +21,7 @@ pub fn put_spaces(out: &mut [u8], at: usize, count: usize) -> usize
 }
 
 // A number, aligned right and cut to its first digits where the column is narrower.
-#[tactic(auto, using(site::proofs::PartLaws::take_min, output::proofs::WritingLaws::then, output::proofs::WritingLaws::in_front, text::proofs::DecimalLaws::length_u64, crate::proofs::PageLineLaws::length_right), unfolding(crate::specs::PageLine::right_in))]
+#[tactic(auto, using(output::proofs::WritingLaws::in_front, text::proofs::DecimalLaws::length_u64))]
 pub fn put_number(out: &mut [u8], at: usize, width: usize, n: u64) -> usize
     requires { at + width ≤ length out.old }
     ensures { Wrote out.old at (right_in width (decimal n)) out.new result × (result ≡ at + width) }

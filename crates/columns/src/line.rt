@@ -37,7 +37,6 @@ fn put_mark(out: &mut [u8], at: usize, v: Verdict) -> usize
     }
 }
 
-#[tactic(auto, using(output::proofs::WritingLaws::then, crate::proofs::PageLineLaws::left_short))]
 fn put_name(out: &mut [u8], at: usize, name: &[u8]) -> usize
     requires { (at + 8 ≤ length out.old) × (length name.now ≤ 8) }
     ensures { Wrote out.old at (left_in 8 name.now) out.new result × (result ≡ at + 8) }
@@ -60,7 +59,7 @@ fn number_width(k: usize) -> usize
     7
 }
 
-#[tactic(auto, using(output::proofs::WritingLaws::nothing, output::proofs::WritingLaws::then, output::proofs::WritingLaws::kept, crate::proofs::PageLineLaws::columns_room, crate::proofs::PageLineLaws::columns_whole), unfolding(crate::specs::PageLine::number_columns))]
+#[tactic(auto, using(output::proofs::WritingLaws::nothing, crate::proofs::PageLineLaws::columns_room, crate::proofs::PageLineLaws::columns_whole), unfolding(crate::specs::PageLine::number_columns))]
 fn put_numbers(out: &mut [u8], at: usize, ns: [u64; 7]) -> usize
     requires { at + 48 ≤ length out.old }
     ensures { Wrote out.old at (number_columns ns 7) out.new result × (result ≡ at + 48) }
@@ -75,7 +74,6 @@ fn put_numbers(out: &mut [u8], at: usize, ns: [u64; 7]) -> usize
     o
 }
 
-#[tactic(auto, using(output::proofs::WritingLaws::then, crate::proofs::PageLineLaws::line_bytes, crate::proofs::PageLineLaws::seven_of), unfolding(crate::specs::PageLine::row_line, crate::specs::PageLine::row_texts))]
 fn put_line(out: &mut [u8], at: usize, row: Row) -> usize
     requires { at + 65 ≤ length out.old }
     ensures { Wrote out.old at (ended (row_line row)) out.new result }
