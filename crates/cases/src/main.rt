@@ -9,8 +9,8 @@
 //   H  a record: the hydrogen level of its site and how many levels were compared, or the line of its refusal
 #![tactic(auto)]
 
-ghost use Rattle.std.specs.Prelude.{◌≤◌, length};
-ghost use Rattle.io.specs.Counts.{IsPrefixLen};
+ghost use Rattle.std.specs.Prelude.{◌≡◌, ◌≤◌, length, take};
+ghost use Rattle.std.specs.Io.{ReadsAtMost};
 
 use judgement::{Verdict, region_number};
 use level::level_at;
@@ -23,6 +23,7 @@ use readings::months_in;
 use record::{Outcome, read_record, write_record};
 use sampler::{SampleAnswer, Sampled, judge_months};
 use site::Rule;
+use std::io::{self, Read};
 use text::{put_decimal, put_refusal};
 
 // The value of a hexadecimal digit, or 16.
@@ -55,7 +56,7 @@ fn digit(x: u8) -> u8 {
 
 // The bytes of a line in hexadecimal, as many as out holds; other characters are skipped.
 fn decode(line: &[u8], out: &mut [u8]) -> usize
-    ensures { IsPrefixLen result out.new }
+    ensures { (result ≤ length out.new) × (result ≡ length (take result out.new)) }
 {
     let mut n = 0;
     let mut high: u8 = 16;
@@ -78,66 +79,68 @@ fn decode(line: &[u8], out: &mut [u8]) -> usize
     n
 }
 
-fn print_hex(bytes: &[u8]) {
+fn print_hex(rt: &impl Print, bytes: &[u8]) -> io::Result<()> {
     let mut i = 0;
     while i < bytes.len() {
         let b = bytes[i];
         let two = [digit(b / 16), digit(b)];
-        io::write_all(1, &two);
+        rt.write_all(&two)?;
         i += 1;
     }
-    io::write_all(1, b"\n");
+    rt.write_all(b"\n")
 }
 
-fn print_first(out: &[u8], n: usize) {
+fn print_first(rt: &impl Print, out: &[u8], n: usize) -> io::Result<()> {
     if n <= out.len() {
-        io::write_all(1, &out[..n]);
+        rt.write_all(&out[..n])?;
     }
+    Ok(())
 }
 
-fn print_written(out: &[u8], written: Written) {
+fn print_written(rt: &impl Print, out: &[u8], written: Written) -> io::Result<()> {
     match written {
-        Written::Count(n) => print_first(out, n),
-        Written::Refused { rule: _, at: _ } => {}
+        Written::Count(n) => print_first(rt, out, n),
+        Written::Refused { rule: _, at: _ } => Ok(()),
     }
 }
 
-fn print_refusal(rule: Rule, at: usize) {
+fn print_refusal(rt: &impl Print, rule: Rule, at: usize) -> io::Result<()> {
     let mut out = [0u8; 64];
     let written = put_refusal(&mut out, rule, at);
-    print_written(&out, written);
+    print_written(rt, &out, written)
 }
 
 // A record read, and written again into a lent buffer.
-fn print_rewritten(bytes: &[u8], out: &mut [u8]) {
+fn print_rewritten(rt: &impl Print, bytes: &[u8], out: &mut [u8]) -> io::Result<()> {
     let read = read_record(bytes);
     let site = read.site;
     let outcome = read.outcome;
     match outcome {
-        Outcome::Refused { rule, at } => print_refusal(rule, at),
+        Outcome::Refused { rule, at } => print_refusal(rt, rule, at),
         Outcome::Accepted => match write_record(site, out) {
-            Written::Refused { rule, at } => print_refusal(rule, at),
+            Written::Refused { rule, at } => print_refusal(rt, rule, at),
             Written::Count(n) => {
                 if n <= out.len() {
-                    print_hex(&out[..n]);
+                    return print_hex(rt, &out[..n]);
                 }
+                Ok(())
             }
         },
     }
 }
 
-fn print_pages(file: &[u8]) {
+fn print_pages(rt: &impl Print, file: &[u8]) -> io::Result<()> {
     let mut out = [0u8; 33085];
     match list_pages(file, &mut out) {
-        Written::Refused { rule, at } => print_refusal(rule, at),
-        Written::Count(n) => print_first(&out, n),
+        Written::Refused { rule, at } => print_refusal(rt, rule, at),
+        Written::Count(n) => print_first(rt, &out, n),
     }
 }
 
 // The bytes count times over, as many as out holds.
 fn repeat(bytes: &[u8], count: usize, out: &mut [u8]) -> usize
     requires { 1 ≤ length bytes.now }
-    ensures { IsPrefixLen result out.new }
+    ensures { (result ≤ length out.new) × (result ≡ length (take result out.new)) }
 {
     let mut n = 0;
     let mut at = 0;
@@ -158,126 +161,124 @@ fn repeat(bytes: &[u8], count: usize, out: &mut [u8]) -> usize
 }
 
 // The buffer holds 501 records of 78 bytes, one more than a file may have.
-fn print_repeated(bytes: &[u8]) {
+fn print_repeated(rt: &impl Print, bytes: &[u8]) -> io::Result<()> {
     if bytes.len() < 3 {
-        return;
+        return Ok(());
     }
     let count = word_at(bytes, 0) as usize;
     let mut file = [0u8; 39078];
     let n = repeat(&bytes[2..], count, &mut file);
-    print_pages(&file[..n]);
+    print_pages(rt, &file[..n])
 }
 
-fn print_number(n: u64) {
+fn print_number(rt: &impl Print, n: u64) -> io::Result<()> {
     let mut out = [0u8; 20];
     let end = put_decimal(&mut out, 0, n);
-    print_first(&out, end);
-    io::write_all(1, b" ");
+    print_first(rt, &out, end)?;
+    rt.write_all(b" ")
 }
 
-fn print_verdict(verdict: Verdict) {
+fn print_verdict(rt: &impl Print, verdict: Verdict) -> io::Result<()> {
     match verdict {
-        Verdict::Within => {
-            io::write_all(1, b"0 0 0 within\n");
-        }
+        Verdict::Within => rt.write_all(b"0 0 0 within\n"),
         Verdict::Over {
             region,
             acid,
             nutrient,
         } => {
-            print_number(region_number(region));
-            print_number(acid);
-            print_number(nutrient);
-            io::write_all(1, b"over\n");
+            print_number(rt, region_number(region))?;
+            print_number(rt, acid)?;
+            print_number(rt, nutrient)?;
+            rt.write_all(b"over\n")
         }
     }
 }
 
-fn print_sampled(sampled: Sampled) {
-    print_number(wide16(sampled.sulphur));
-    print_number(wide16(sampled.nitrogen));
+fn print_sampled(rt: &impl Print, sampled: Sampled) -> io::Result<()> {
+    print_number(rt, wide16(sampled.sulphur))?;
+    print_number(rt, wide16(sampled.nitrogen))?;
     let judged = sampled.judged;
     let l = judged.loads;
-    print_number(l.max_s);
-    print_number(l.min_n);
-    print_number(l.max_n);
-    print_number(l.nut_n);
+    print_number(rt, l.max_s)?;
+    print_number(rt, l.min_n)?;
+    print_number(rt, l.max_n)?;
+    print_number(rt, l.nut_n)?;
     let verdict = judged.verdict;
-    print_verdict(verdict);
+    print_verdict(rt, verdict)
 }
 
 // The record is as long as it states.
-fn print_months(bytes: &[u8]) {
+fn print_months(rt: &impl Print, bytes: &[u8]) -> io::Result<()> {
     let end = 3 + word_at(bytes, 1) as usize;
     if bytes.len() < end {
-        return;
+        return Ok(());
     }
     let read = read_record(&bytes[..end]);
     let site = read.site;
     let outcome = read.outcome;
     match outcome {
-        Outcome::Refused { rule, at } => print_refusal(rule, at),
+        Outcome::Refused { rule, at } => print_refusal(rt, rule, at),
         Outcome::Accepted => match judge_months(site, months_in(&bytes[end..])) {
-            SampleAnswer::Refused { rule, at } => print_refusal(rule, at),
-            SampleAnswer::Given(sampled) => print_sampled(sampled),
+            SampleAnswer::Refused { rule, at } => print_refusal(rt, rule, at),
+            SampleAnswer::Given(sampled) => print_sampled(rt, sampled),
         },
     }
 }
 
-fn print_level(bytes: &[u8]) {
+fn print_level(rt: &impl Print, bytes: &[u8]) -> io::Result<()> {
     let read = read_record(bytes);
     let site = read.site;
     let outcome = read.outcome;
     match outcome {
-        Outcome::Refused { rule, at } => print_refusal(rule, at),
+        Outcome::Refused { rule, at } => print_refusal(rt, rule, at),
         Outcome::Accepted => match level_at(site) {
-            LevelAnswer::Refused(rule) => print_refusal(rule, 0),
+            LevelAnswer::Refused(rule) => print_refusal(rt, rule, 0),
             LevelAnswer::Given(found) => {
-                print_number(found.level);
-                print_number(found.compared);
-                io::write_all(1, b"compared\n");
+                print_number(rt, found.level)?;
+                print_number(rt, found.compared)?;
+                rt.write_all(b"compared\n")
             }
         },
     }
 }
 
-fn print_vector(kind: u8, bytes: &[u8], out: &mut [u8]) {
+fn print_vector(rt: &impl Print, kind: u8, bytes: &[u8], out: &mut [u8]) -> io::Result<()> {
     match kind {
         70 => {
             let written = report(bytes, out);
-            print_written(out, written);
+            print_written(rt, out, written)
         }
-        72 => print_level(bytes),
-        77 => print_months(bytes),
-        80 => print_pages(bytes),
-        82 => print_rewritten(bytes, out),
+        72 => print_level(rt, bytes),
+        77 => print_months(rt, bytes),
+        80 => print_pages(rt, bytes),
+        82 => print_rewritten(rt, bytes, out),
         83 => {
             let n = bytes.len();
             if 0 < n {
                 if n <= out.len() {
-                    print_rewritten(bytes, &mut out[..n - 1]);
+                    return print_rewritten(rt, bytes, &mut out[..n - 1]);
                 }
             }
+            Ok(())
         }
-        84 => print_repeated(bytes),
-        _ => {}
+        84 => print_repeated(rt, bytes),
+        _ => Ok(()),
     }
 }
 
-fn print_line(line: &[u8]) {
+fn print_line(rt: &impl Print, line: &[u8]) -> io::Result<()> {
     if line.len() == 0 {
-        return;
+        return Ok(());
     }
     let kind = line[0];
     if kind == 35 {
-        io::write_all(1, line);
-        io::write_all(1, b"\n");
-        return;
+        rt.write_all(line)?;
+        return rt.write_all(b"\n");
     }
     let mut bytes = [0u8; 2048];
     let mut out = [0u8; 8192];
     let n = decode(&line[1..], &mut bytes);
-    print_vector(kind, &bytes[..n], &mut out);
+    print_vector(rt, kind, &bytes[..n], &mut out)
 }
 
 // Where the line that starts at `at` ends.
@@ -295,17 +296,33 @@ fn line_end(text: &[u8], at: usize) -> usize
     i
 }
 
-fn print_lines(text: &[u8]) {
+fn print_lines(rt: &impl Print, text: &[u8]) -> io::Result<()> {
     let mut at = 0;
     while at < text.len() {
         let end = line_end(text, at);
-        print_line(&text[at..end]);
+        print_line(rt, &text[at..end])?;
         at = end + 1;
     }
+    Ok(())
 }
 
-fn main() {
+// Reads until the text is full or the input ends.
+fn read_text<R: Read>(input: &mut R, text: &mut [u8]) -> io::Result<usize>
+    ensures { ReadsAtMost result text.new }
+{
+    let mut done = 0;
+    while done < text.len() {
+        let n = input.read(&mut text[done..])?;
+        if n == 0 {
+            break;
+        }
+        done += n;
+    }
+    Ok(done)
+}
+
+fn main(rt: HostRuntime) -> io::Result<()> {
     let mut text = [0u8; 32768];
-    let n = io::read_full(0, &mut text);
-    print_lines(&text[..n]);
+    let n = read_text(&mut rt.stdin(), &mut text)?;
+    print_lines(&rt, &text[..n])
 }
