@@ -5,6 +5,7 @@ ghost use Rattle.exports.specs.Layout.{site_in};
 use numbers::{byte, word_at};
 use site::{Entry, Site, entry_at, name_in};
 
+#[tactic(auto, unfolding(crate::specs::Layout::site_in))]
 fn stand(b: &[u8]) -> [Entry; 4]
     ensures { result ≡ (site_in b.now).stand }
 {
@@ -15,6 +16,7 @@ fn stand(b: &[u8]) -> [Entry; 4]
     [e0, e1, e2, e3]
 }
 
+#[tactic(auto, unfolding(crate::specs::Layout::site_in))]
 pub fn site_in(b: &[u8]) -> Site
     ensures { result ≡ site_in b.now }
 {

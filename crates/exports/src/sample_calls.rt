@@ -15,6 +15,7 @@ use sampler::{SampleAnswer, judge_months, refuse_checked};
 use site::Rule;
 
 // The answer for the bytes of a site value and of its months.
+#[tactic(auto, using(crate::proofs::SampleCallLaws::site_length, crate::proofs::SampleCallLaws::months_length_lem, crate::proofs::SampleCallLaws::both_whole))]
 fn sample_in(site: &[u8], months: &[u8]) -> SampleAnswer
     ensures { result ≡ sample_in site.now months.now }
 {
@@ -30,6 +31,7 @@ fn sample_in(site: &[u8], months: &[u8]) -> SampleAnswer
     judge_months(site_in(site), months_in(months))
 }
 
+#[tactic(auto, using(output::proofs::WritingLaws::then, output::proofs::WritingLaws::stored, output::proofs::WritingLaws::and_stored, output::proofs::WritingLaws::kept, crate::proofs::SampleCallLaws::sample_refused, crate::proofs::SampleCallLaws::sample_short, crate::proofs::SampleCallLaws::sample_written_lem), unfolding(crate::specs::Samples::sampled_numbers))]
 #[unsafe(no_mangle)]
 pub extern "C" fn forest_sample(site: &[u8], months: &[u8], out: &mut [u64]) -> u64
     ensures answer { result ≡ written_code (sample_written (sample_in site.now months.now) (length out.old)) }
