@@ -57,7 +57,7 @@
  *   - `uint64_t *out` is aligned for uint64_t;
  *   - input and output do not overlap;
  *   - the stack given below, in whole KiB. No proof bounds it: it is measured (docs/src/compare/stack) on the library of
- *     `rt staticlib exports`, which is compiled for x86-64 at -O3. Of the C library memcpy and memset alone are called;
+ *     `rt lib` in crates/exports_c, which is compiled for x86-64-v2 at -O3. Of the C library memcpy and memset alone are called;
  *     where one is bound at its first call, that call takes some 3 KiB more.
  *
  * Calls keep no state. They may be made from several threads at once if none writes what another reads or writes.

@@ -1,4 +1,4 @@
-//! Links the static library `exports` from the folder FOREST_LIB, by default target/staticlib of the repository.
+//! Links the static library `libexports.a` from the folder FOREST_LIB, by default target/staticlib of the repository.
 
 use std::env;
 use std::path::PathBuf;
