@@ -6,3 +6,4 @@ pub mod Demand3
 pub mod Monotone
 pub mod AtSites
 pub mod JudgementAnswers
+pub mod Cases

@@ -1,1 +1,2 @@
 pub mod SiteLevelLaws
+pub mod Cases

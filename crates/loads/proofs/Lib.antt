@@ -13,3 +13,4 @@ pub mod LoadBounds
 pub mod OneSiteLaws
 pub mod LimitAnswers
 pub mod LoadsAnswers
+pub mod ExampleTerms

@@ -12,4 +12,3 @@ pub mod Hydrogen
 pub mod Search
 pub mod CriticalLoads
 pub mod LoadsConditions
-pub mod ExampleTerms

@@ -5,3 +5,4 @@ pub mod MonthLaws
 pub mod YearLaws
 pub mod FirstMonthLaws
 pub mod SampleLaws
+pub mod Cases

@@ -1,12 +1,9 @@
--- Floats by their bits, and years: a table of each, and a computed proof of each that the definitions give the numbers beside them.
-use Rattle.std.specs.Prelude.{ℕ, false, ◌≡◌, refl, List, [], ◌∷◌, ◌++◌, map, pos, negsuc, replicate, Float}
+-- Floats by their bits, and years: a table of each. `floats_agree` and `years_agree` in `proofs/Cases.antt` prove that the definitions give the numbers
+-- beside them.
+use Rattle.std.specs.Prelude.{ℕ, false, List, [], ◌∷◌, ◌++◌, pos, negsuc, replicate, Float}
 use Rattle.std.specs.Float.{nan, fin, binary32}
 use Rattle.std.specs.Float.Ieee.{of_bits}
-use Rattle.site.specs.Refusal.{rule_number, and_then}
-use Rattle.loads.specs.Rounding.{up}
-use Rattle.sampler.specs.Micrograms.{concentration_of}
-use Rattle.sampler.specs.MonthRules.{month_rule, sulphur_of, nitrogen_of}
-use Rattle.sampler.specs.YearPair.{year_of}
+use Rattle.site.specs.Refusal.{rule_number}
 use Rattle.sampler.specs.declared.Reading.{Reading}
 use Rattle.sampler.specs.declared.Reading.TheVariants.{Measured, Below, Missing}
 use Rattle.sampler.specs.declared.Month.{Month}
@@ -21,7 +18,7 @@ pub data Given : Type 0 where
   taken : (micrograms : ℕ) → Given
   refused : (number : ℕ) → Given
 
-abbrev given_by : Concentration → Given
+abbrev pub given_by : Concentration → Given
 given_by (Micrograms n) = taken n
 given_by (Refused rule) = refused (rule_number rule)
 
@@ -48,13 +45,9 @@ floats =
     ∷ record { bits = 0xffff_ffff; given = refused 12 }
     ∷ []
 
-floats_agree : map (λ (c : FloatCase). given_by (concentration_of (of_bits binary32 c.bits))) floats ≡ map (λ (c : FloatCase). c.given) floats
-unfolding floats concentration_of of_bits up
-floats_agree = refl
-
 -- ---- years: S and N, or number and offset
 
-abbrev year_numbers : Year → (ℕ × ℕ)
+abbrev pub year_numbers : Year → (ℕ × ℕ)
 year_numbers (Pair S N) = (S, N)
 year_numbers (YearRefused rule at) = (rule_number rule, at)
 
@@ -97,7 +90,3 @@ years =
     ∷ record { months = replicate 12 (month 1000 (Measured (mg 9)) (Measured (mg 0)) (Measured (mg 0))); given = (14, 12) }  -- sulphur alone
     ∷ record { months = replicate 12 (month 1000 (Measured (mg 0)) (Measured (mg 3)) (Below (mg 5))); given = (14, 12) }  -- nitrogen alone
     ∷ []
-
-years_agree : map (λ (c : YearCase). year_numbers (year_of c.months)) years ≡ map (λ (c : YearCase). c.given) years
-unfolding years year_of month_rule and_then sulphur_of nitrogen_of concentration_of of_bits up
-years_agree = refl

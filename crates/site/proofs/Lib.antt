@@ -12,3 +12,4 @@ pub mod NumberLaws
 pub mod BoundsLaw
 pub mod ByCheckLaws
 pub mod FirstBrokenLaws
+pub mod ExampleSite

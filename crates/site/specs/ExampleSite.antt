@@ -1,11 +1,7 @@
 -- Site A1 of document 01, "Record, file, listing".
-use Rattle.std.specs.Prelude.{◌≡◌, refl, [], ◌∷◌}
+use Rattle.std.specs.Prelude.{[], ◌∷◌}
 use Rattle.site.specs.declared.Site.{Site}
-use Rattle.site.specs.declared.Checked.TheVariants.{Passed}
 use Rattle.site.specs.Bounds.{no_entry}
-use Rattle.site.specs.Refusal.{and_then}
-use Rattle.site.specs.Values.{item_count, count_rule, name_byte, all_of, between, entry_ranged, rising_from, shares_of, stand_rule, value_rule}
-use Rattle.site.specs.Check.{fields_rule, site_rule}
 
 abbrev pub a1 : Site
 a1 = record {
@@ -29,8 +25,3 @@ a1 = record {
   sulphur = 500;
   nitrogen = 700;
 }
-
--- it passes the check
-a1_passes : site_rule a1 ≡ Passed
-unfolding site_rule fields_rule and_then item_count count_rule name_byte all_of between entry_ranged rising_from shares_of stand_rule value_rule
-a1_passes = refl
