@@ -1,3 +1,4 @@
+-- i stays within the bytes.
 use Rattle.std.proofs.Common.{length, ◌-◌, ◌≤◌}
 use Rattle.cases.proofs.print_hex.Given as goal
 
