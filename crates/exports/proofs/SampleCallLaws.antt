@@ -21,7 +21,7 @@ use Rattle.judgement.specs.Balance.{Tells}
 use Rattle.judgement.specs.declared.Verdict.{Verdict}
 use Rattle.judgement.specs.declared.Verdict.TheVariants.{Within, Over}
 use Rattle.judgement.specs.declared.Judged.{Judged}
-use Rattle.judgement.specs.Verdicts.{verdict, verdict_numbers}
+use Rattle.judgement.specs.Verdicts.{verdict_numbers}
 use Rattle.judgement.proofs.JudgementAnswers.{judgement_given}
 use Rattle.output.specs.declared.Written.{Written}
 use Rattle.output.specs.declared.Written.TheVariants.{Count, Refused as NotWritten}

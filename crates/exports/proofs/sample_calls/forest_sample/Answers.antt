@@ -22,5 +22,5 @@ returns-else-out-lt10 c =
     let a = c.args in
     let pair = and_stored (stored a.out.now 0 _) 1 _ refl in
     let h = sample_written_lem a.site.now a.months.now a.out.now _ (sym c.in-Given.ensures) (omega arith)
-        (rw (c.wide16.ensures.0, c.wide16-in-Given.ensures.0) at (then pair c.put_judged.ensures)) in
+    (rw (c.wide16.ensures.0, c.wide16-in-Given.ensures.0) at (then pair c.put_judged.ensures)) in
     record { answer = h.0; buffer = h.1.0; decoded = h.1.1.0; by_key = h.1.1.1.0; demand3 = h.1.1.1.1 }

@@ -52,6 +52,6 @@ returns-else-out-lt2 c =
     let found : f ≡ searched_at (terms_of (site_in b)) = g.1 ∙ ap (λ (s : Site). searched_at (terms_of s)) c.site_in.ensures in
     let two = numbers (site_in b) f found in
     let h = with_count b old _
-        (value_written b 2 (omega arith) (level_numbers (terms_of (site_in b))) old {r = 2} (check ∙ g.0) (rw two) (omega arith)
-        (rw two (and_stored (stored old 0 f.level) 1 f.compared refl))) in
+    (value_written b 2 (omega arith) (level_numbers (terms_of (site_in b))) old {r = 2} (check ∙ g.0) (rw two) (omega arith)
+    (rw two (and_stored (stored old 0 f.level) 1 f.compared refl))) in
     record { answer = h.0; buffer = h.1.0; decoded = h.1.1.0; count = h.1.1.1 }

@@ -28,19 +28,19 @@ returns c =
 pub returns-in-Refused : goal.returns-in-Refused
 returns-in-Refused c =
     let t : StepTaken c.args.file.now c.loop-at.rows c.loop-at.count c.loop-at.at c.step-t.result =
-        record { so = c.loop-at.invariant.3; inside = c.loop-at-test.true; fewer = c.if-count-ge500.false; is = c.step-t.ensures } in
+    record { so = c.loop-at.invariant.3; inside = c.loop-at-test.true; fewer = c.if-count-ge500.false; is = c.step-t.ensures } in
     let h = with_fault (step_bad t c.in-Refused.is) c.refused_rows-in-Refused.ensures in
     record { answer = h.0; numbers = h.1 }
 
 pub loop-at-smaller : goal.loop-at-smaller
 loop-at-smaller c =
     let t : StepTaken c.args.file.now c.loop-at.rows c.loop-at.count c.loop-at.at c.step-t.result =
-        record { so = c.loop-at.invariant.3; inside = c.loop-at-test.true; fewer = c.if-count-ge500.false; is = c.step-t.ensures } in
+    record { so = c.loop-at.invariant.3; inside = c.loop-at-test.true; fewer = c.if-count-ge500.false; is = c.step-t.ensures } in
     omega (arith, step_on t c.in-Accepted.is)
 
 pub loop-at-preserved : goal.loop-at-preserved
 loop-at-preserved c =
     let t : StepTaken c.args.file.now c.loop-at.rows c.loop-at.count c.loop-at.at c.step-t.result =
-        record { so = c.loop-at.invariant.3; inside = c.loop-at-test.true; fewer = c.if-count-ge500.false; is = c.step-t.ensures } in
+    record { so = c.loop-at.invariant.3; inside = c.loop-at-test.true; fewer = c.if-count-ge500.false; is = c.step-t.ensures } in
     let so = step_good t c.in-Accepted.is in
     ((step_on t c.in-Accepted.is).1, so.few, simp length-set c.loop-at.invariant.2, so)

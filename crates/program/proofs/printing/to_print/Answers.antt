@@ -11,7 +11,7 @@ returns-in-Ended c =
     let room : most_text ≤ length a.out.now = search rules in
     let e = c.shown.ensures in
     let h = after_the_end a.file.now a.out.now c.shown.new.out a.reading c.in-Ended.n c.least-m.result c.shown.result
-        c.in-Ended.is c.least-m.ensures.0 size e.inside e.answer e.buffer (e.enough room) in
+    c.in-Ended.is c.least-m.ensures.0 size e.inside e.answer e.buffer (e.enough room) in
     record { inside = h.0; answer = h.1.0; buffer = h.1.1.0; failed = h.1.1.1.0; whole = h.1.1.1.1.0; demand3 = h.1.1.1.1.1 }
 
 pub returns-in-More : goal.returns-in-More
