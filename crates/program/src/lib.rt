@@ -1,11 +1,13 @@
-// What the program decides: what follows a read, and what is printed.
+// The program over any reader and writer: what follows a read, what is printed, and the whole.
 #![tactic(auto)]
 
 mod printing;
 mod reader;
+mod running;
 
 pub use printing::to_print;
 pub use reader::{after_read, read_all};
+pub use running::run;
 
 // Where the reading of a file stands, with how many bytes are read.
 #[derive(Clone, Copy)]
