@@ -102,9 +102,9 @@ pub record StepTaken (f : List ℕ) (rows : List Row) (count at : ℕ) (t : Step
   pub fewer : count < most_records
   pub is : t ≡ step_of (record_at f at)
 
-pub taken : {f : List ℕ} {rows : List Row} {count at : ℕ} {t : Step} → SoFar f rows count at → at < length f → count < most_records
+pub step_taken : {f : List ℕ} {rows : List Row} {count at : ℕ} {t : Step} → SoFar f rows count at → at < length f → count < most_records
     → t ≡ step_of (record_at f at) → StepTaken f rows count at t
-taken so inside fewer is = record { so = so; inside = inside; fewer = fewer; is = is }
+step_taken so inside fewer is = record { so = so; inside = inside; fewer = fewer; is = is }
 
 module _ {f : List ℕ} {rows : List Row} {count at : ℕ} {t : Step} (x : StepTaken f rows count at t) where
   pub step_bad : {rule : Rule} {p : ℕ} → t.outcome ≡ Refused rule p → contents f ≡ fault rule p
