@@ -14,7 +14,6 @@ use crate::codes::written_code;
 use listing::{list, report};
 use pages::list_pages;
 
-#[tactic(auto, using(crate::proofs::FileCallLaws::file_decoded))]
 #[unsafe(no_mangle)]
 pub extern "C" fn forest_list(file: &[u8], out: &mut [u8]) -> u64
     ensures answer { result ≡ written_code (file_answer listing_of (contents file.now) out.old) }
@@ -25,7 +24,6 @@ pub extern "C" fn forest_list(file: &[u8], out: &mut [u8]) -> u64
     written_code(list(file, out))
 }
 
-#[tactic(auto, using(crate::proofs::FileCallLaws::report_decoded))]
 #[unsafe(no_mangle)]
 pub extern "C" fn forest_report(file: &[u8], out: &mut [u8]) -> u64
     ensures answer { result ≡ written_code (text_answer (report_of file.now) out.old) }
@@ -36,7 +34,6 @@ pub extern "C" fn forest_report(file: &[u8], out: &mut [u8]) -> u64
     written_code(report(file, out))
 }
 
-#[tactic(auto, using(crate::proofs::FileCallLaws::file_decoded))]
 #[unsafe(no_mangle)]
 pub extern "C" fn forest_pages(file: &[u8], out: &mut [u8]) -> u64
     ensures answer { result ≡ written_code (file_answer pages_of (contents file.now) out.old) }

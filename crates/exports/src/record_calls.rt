@@ -6,7 +6,6 @@ ghost use Rattle.exports.specs.Codes.{written_code, Decodes, rewrite_answer, rew
 use crate::codes::{refusal_code, written_code};
 use record::{Outcome, read_record, write_record};
 
-#[tactic(auto, using(crate::proofs::RewriteLaws::not_read, crate::proofs::RewriteLaws::rewritten))]
 #[unsafe(no_mangle)]
 pub extern "C" fn forest_rewrite(input: &[u8], out: &mut [u8]) -> u64
     ensures answer { result ≡ written_code (rewrite_answer (read_record input.now).outcome input.now out.old) }

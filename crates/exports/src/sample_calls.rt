@@ -31,7 +31,6 @@ fn sample_in(site: &[u8], months: &[u8]) -> SampleAnswer
     judge_months(site_in(site), months_in(months))
 }
 
-#[tactic(auto, using(output::proofs::WritingLaws::then, output::proofs::WritingLaws::stored, output::proofs::WritingLaws::and_stored, output::proofs::WritingLaws::kept, crate::proofs::SampleCallLaws::sample_refused, crate::proofs::SampleCallLaws::sample_short, crate::proofs::SampleCallLaws::sample_written_lem), unfolding(crate::specs::Samples::sampled_numbers))]
 #[unsafe(no_mangle)]
 pub extern "C" fn forest_sample(site: &[u8], months: &[u8], out: &mut [u64]) -> u64
     ensures answer { result ≡ written_code (sample_written (sample_in site.now months.now) (length out.old)) }

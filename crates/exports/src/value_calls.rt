@@ -31,7 +31,6 @@ pub extern "C" fn forest_check(site: &[u8]) -> u64
 }
 
 // Four numbers from place `at` on.
-#[tactic(auto, using(output::proofs::WritingLaws::stored, output::proofs::WritingLaws::and_stored, output::proofs::WritingLaws::ends_at), unfolding(site::specs::Bytes::tabulate))]
 fn put_four(out: &mut [u64], at: usize, ns: [u64; 4])
     requires { at + 4 ≤ length out.old }
     ensures { Wrote out.old at ns out.new (at + 4) }
@@ -42,7 +41,6 @@ fn put_four(out: &mut [u64], at: usize, ns: [u64; 4])
     out[at + 3] = ns[3];
 }
 
-#[tactic(auto, using(loads::proofs::LoadsAnswers::loads_given, loads::proofs::LoadsAnswers::loads_refused, crate::proofs::SiteValueLaws::wrong_length, crate::proofs::SiteValueLaws::as_site, crate::proofs::SiteValueLaws::value_refused, crate::proofs::SiteValueLaws::value_short, crate::proofs::SiteValueLaws::value_written), unfolding(crate::specs::Layout::site_load_numbers, loads::specs::CriticalLoads::load_numbers))]
 #[unsafe(no_mangle)]
 pub extern "C" fn forest_loads(site: &[u8], out: &mut [u64]) -> u64
     ensures answer { result ≡ written_code (value_answer site.now 4 (length out.old)) }
@@ -64,7 +62,6 @@ pub extern "C" fn forest_loads(site: &[u8], out: &mut [u64]) -> u64
     }
 }
 
-#[tactic(auto, using(level::proofs::SiteLevelLaws::level_given, level::proofs::SiteLevelLaws::level_refused, output::proofs::WritingLaws::stored, output::proofs::WritingLaws::and_stored, crate::proofs::SiteValueLaws::wrong_length, crate::proofs::SiteValueLaws::as_site, crate::proofs::SiteValueLaws::value_refused, crate::proofs::SiteValueLaws::value_short, crate::proofs::SiteValueLaws::value_written, crate::proofs::SiteValueLaws::with_count), unfolding(loads::specs::Search::level_numbers, loads::specs::Search::searched_at, loads::specs::Search::searched_of, loads::specs::Hydrogen::greatest_level, loads::specs::Search::levels_compared))]
 #[unsafe(no_mangle)]
 pub extern "C" fn forest_level(site: &[u8], out: &mut [u64]) -> u64
     ensures answer { result ≡ written_code (value_answer site.now 2 (length out.old)) }
@@ -104,7 +101,6 @@ fn verdict_marked(v: Verdict) -> [u64; 4]
 }
 
 // The loads from place `at` on, and behind them the verdict.
-#[tactic(auto, using(output::proofs::WritingLaws::then, output::proofs::WritingLaws::ends_at), unfolding(crate::specs::Layout::judged_numbers, loads::specs::CriticalLoads::load_numbers))]
 pub fn put_judged(out: &mut [u64], at: usize, judged: Judged)
     requires { at + 8 ≤ length out.old }
     ensures { Wrote out.old at (judged_numbers judged) out.new (at + 8) }
@@ -116,7 +112,6 @@ pub fn put_judged(out: &mut [u64], at: usize, judged: Judged)
     put_four(out, at + 4, marked);
 }
 
-#[tactic(auto, using(judgement::proofs::JudgementAnswers::judgement_given, judgement::proofs::JudgementAnswers::judgement_refused, crate::proofs::SiteValueLaws::wrong_length, crate::proofs::SiteValueLaws::as_site, crate::proofs::SiteValueLaws::value_refused, crate::proofs::SiteValueLaws::value_short, crate::proofs::SiteValueLaws::value_written, crate::proofs::SiteValueLaws::length_judged, crate::proofs::SiteValueLaws::with_mark), unfolding(crate::specs::Layout::judgement_numbers, crate::specs::Layout::site_load_numbers, crate::specs::Layout::judged_numbers, judgement::specs::Answers::judged_of))]
 #[unsafe(no_mangle)]
 pub extern "C" fn forest_judge(site: &[u8], out: &mut [u64]) -> u64
     ensures answer { result ≡ written_code (value_answer site.now 8 (length out.old)) }

@@ -176,7 +176,6 @@ fn store_field(site: Site, tag: u8, value: &[u8]) -> Taken
 }
 
 // Rules 7 to 10 of a field, and the site with its value.
-#[tactic(auto, using(crate::proofs::TakenLaws::taken_stored, crate::proofs::TakenLaws::taken_refused))]
 pub fn take_field(site: Site, tag: u8, value: &[u8]) -> Taken
     ensures answer { result ≡ taken tag value.now site }
     ensures number { Numbered (field_rule site_kind tag value.now site) (checked_number result.checked) }

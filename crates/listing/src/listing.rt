@@ -13,7 +13,6 @@ use record::Outcome;
 use text::put_listing;
 
 // Nothing is written before the last record is checked and the length is known to fit.
-#[tactic(auto, using(crate::proofs::ListLaws::found_sites, crate::proofs::ListLaws::found_fault, crate::proofs::ListLaws::by_sites, crate::proofs::ListLaws::listed_sites, crate::proofs::ListLaws::filed_fault))]
 pub fn list(file: &[u8], out: &mut [u8]) -> Written
     ensures answer { result ≡ file_answer listing_of (contents file.now) out.old }
     ensures buffer { out.new ≡ file_held listing_of (contents file.now) out.old }

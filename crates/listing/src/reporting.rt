@@ -11,7 +11,6 @@ use record::Outcome;
 use text::{put_listing, put_refusal};
 
 // The listing, or the line of the refusal.
-#[tactic(auto, using(crate::proofs::ListLaws::found_sites, crate::proofs::ListLaws::found_fault, crate::proofs::ListLaws::by_sites, crate::proofs::ListLaws::reported_sites, crate::proofs::ListLaws::reported_fault))]
 pub fn report(file: &[u8], out: &mut [u8]) -> Written
     ensures answer { result ≡ text_answer (report_of file.now) out.old }
     ensures buffer { out.new ≡ held (report_of file.now) out.old }

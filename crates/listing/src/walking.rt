@@ -47,7 +47,6 @@ fn row_by(site: Site, judged: Judged) -> Row
     }
 }
 
-#[tactic(auto, using(crate::proofs::StepLaws::step_refused, crate::proofs::StepLaws::judged, crate::proofs::StepLaws::step_accepted))]
 fn step(file: &[u8], at: usize) -> Step
     ensures { result ≡ step_of (record_at file.now at) }
 {
@@ -95,7 +94,6 @@ fn refused_rows(rule: Rule, at: usize) -> Walked
 }
 
 // The rows of a file, or its first fault.
-#[tactic(auto, using(record::proofs::SiteFile::sites_none, crate::proofs::LoopLaws::so_start, crate::proofs::LoopLaws::so_end, crate::proofs::LoopLaws::so_full, crate::proofs::LoopLaws::step_bad, crate::proofs::LoopLaws::step_good, crate::proofs::LoopLaws::step_on, crate::proofs::LoopLaws::with_numbers, crate::proofs::LoopLaws::with_fault), unfolding(crate::specs::Rows::padded))]
 pub fn walk_file(file: &[u8]) -> Walked
     ensures answer { result ≡ walked_of (contents file.now) }
     ensures numbers { outcome_numbers result.outcome ≡ result_numbers (contents file.now) }

@@ -2,7 +2,6 @@
 ghost use Rattle.output.specs.Writing.{WroteIf};
 
 // Writes text at index at, and returns the index after it; where it does not fit, nothing is written.
-#[tactic(auto, using(crate::proofs::WritingLaws::copy_none, crate::proofs::WritingLaws::copy_more, crate::proofs::WritingLaws::copy_all, crate::proofs::WritingLaws::wrote_none, crate::proofs::WritingLaws::wrote_some))]
 pub fn put_bytes(out: &mut [u8], at: usize, text: &[u8]) -> usize
     ensures { WroteIf out.old at text.now out.new result }
 {

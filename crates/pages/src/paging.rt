@@ -15,7 +15,6 @@ use record::Outcome;
 use site::Rule;
 
 // Writes the pages of the rows that a walk has found. A buffer that is too short for all of them stays as it is.
-#[tactic(auto, using(output::proofs::WritingLaws::kept, crate::proofs::PagesLaws::nothing_paged, crate::proofs::PagesLaws::headed_start, crate::proofs::PagesLaws::headed_under, crate::proofs::PagesLaws::headed_row, crate::proofs::PagesLaws::rows_more, crate::proofs::PagesLaws::pages_short, crate::proofs::PagesLaws::pages_put))]
 fn put_pages(out: &mut [u8], walked: Walked) -> Written
     requires { (walked.count ≤ 500) × (walked.count ≤ length walked.rows) }
     ensures { (result ≡ text_answer (pages (take walked.count walked.rows)) out.old) × (out.new ≡ held (pages (take walked.count walked.rows)) out.old) }
@@ -39,7 +38,6 @@ fn put_pages(out: &mut [u8], walked: Walked) -> Written
 }
 
 // Nothing is written before the last record is checked and all pages are known to fit.
-#[tactic(auto, using(record::proofs::SiteFile::sites_checked, listing::proofs::ListLaws::found_sites, listing::proofs::ListLaws::found_fault, listing::proofs::ListLaws::filed_fault, crate::proofs::PagesLaws::paged))]
 pub fn list_pages(file: &[u8], out: &mut [u8]) -> Written
     ensures answer { result ≡ file_answer pages_of (contents file.now) out.old }
     ensures buffer { out.new ≡ file_held pages_of (contents file.now) out.old }

@@ -104,7 +104,6 @@ fn only_one(x: Found, n: usize) -> Read
 }
 
 // The single record of a file of at most one.
-#[tactic(auto, using(crate::proofs::OuterLaws::read_none, crate::proofs::OuterLaws::read_some, crate::proofs::RoundTrip::read_answers))]
 pub fn read_record(file: &[u8]) -> Read
     ensures answer { result ≡ read_record file.now }
     ensures numbers { outcome_numbers result.outcome ≡ result_numbers (only_site file.now) }

@@ -12,7 +12,6 @@ use output::put_bytes;
 use site::Site;
 
 // Tag and length of a field. Each of these functions returns the index after what it has written.
-#[tactic(auto, using(output::proofs::WritingLaws::stored, output::proofs::WritingLaws::and_stored, output::proofs::WritingLaws::ends_at))]
 pub fn put_head(buf: &mut [u8], at: usize, tag: u8, n: usize) -> usize
     requires { (at + 3 ≤ length buf.old) × (n < 65536) }
     ensures { Wrote buf.old at (tag ∷ (n / 256) ∷ (n % 256) ∷ []) buf.new result }

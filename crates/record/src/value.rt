@@ -40,7 +40,6 @@ fn name_value(name: [u8; 8], n: u8) -> ValueBytes
     }
 }
 
-#[tactic(auto, using(crate::proofs::ValueBytesLaws::stand_value_lem, site::proofs::PartLaws::take_min, field::proofs::EntryLaws::length_entries), unfolding(field::specs::Field::entries_bytes, site::specs::Bytes::tabulate))]
 fn stand_value(stand: [Entry; 4], n: u8) -> ValueBytes
     ensures { Holds result.bytes result.len (entries_bytes (take n stand)) }
 {

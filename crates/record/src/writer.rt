@@ -20,7 +20,6 @@ fn body_len(name: u8, entries: u8) -> usize
 }
 
 // The record from `at` on; returns the index after it.
-#[tactic(auto, using(crate::proofs::EncodeLaws::encode_wrote))]
 fn put_record(buf: &mut [u8], at: usize, site: Site, body: usize) -> usize
     requires { (length (encode site) ≡ 3 + body) × (body ≤ 1344) × (at + length (encode site) ≤ length buf.old) }
     ensures { Wrote buf.old at (encode site) buf.new result }
