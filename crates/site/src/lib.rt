@@ -7,7 +7,7 @@ mod check;
 mod length;
 mod name;
 mod ranges;
-mod refusal;
+mod rules;
 mod stand;
 mod value;
 
@@ -19,7 +19,7 @@ pub use ranges::{
     available_rule, base_deposition_rule, ceiling_rule, depth_rule, drainage_rule, gibbsite_rule,
     immobilisation_rule, leachate_rule, parent_rule, percolation_rule, ratio_rule, texture_rule,
 };
-pub use refusal::rule_number;
+pub use rules::rule_number;
 pub use stand::stand_rule;
 
 // An entry of the stand: species, share in percent, yield of a pure stand in kg dry matter per hectare and year.
@@ -56,22 +56,29 @@ pub struct Site {
 }
 
 // The refusals by number: 1 to 11 of document 01, "Where each check stands", then those of document 02.
-#[derive(Clone, Copy)]
+#[derive(Clone, Copy, Debug, PartialEq, Eq)]
 pub enum Rule {
-    NoBytes,
-    OuterCut,
-    OuterTag,
-    TooMany,
-    InnerCut,
-    InnerTag,
-    BadLength,
-    OutOfRange,
-    NotRising,
-    SharesNotWhole,
-    BufferShort,
-    BadConcentration,
-    NoReading,
-    PairTooLarge,
+    NoBytes = 1,
+    OuterCut = 2,
+    OuterTag = 3,
+    TooMany = 4,
+    InnerCut = 5,
+    InnerTag = 6,
+    BadLength = 7,
+    OutOfRange = 8,
+    NotRising = 9,
+    SharesNotWhole = 10,
+    BufferShort = 11,
+    BadConcentration = 12,
+    NoReading = 13,
+    PairTooLarge = 14,
+}
+
+// The rule that is broken, and the offset of the fault.
+#[derive(Clone, Copy, Debug, PartialEq, Eq)]
+pub struct Refusal {
+    pub rule: Rule,
+    pub at: usize,
 }
 
 // What a check says.
