@@ -8,7 +8,8 @@ use lib.ListN.{length, get_or, length-map}
 use Rattle.site.specs.declared.Site.{Site}
 use Rattle.site.specs.declared.Checked.TheVariants.{Passed}
 use Rattle.site.specs.Check.{site_rule}
-use Rattle.site.specs.Values.{name_byte, all_of, value_rule}
+use Rattle.site.specs.Values.{name_byte, value_rule}
+use Rattle.std.specs.List.{list_all}
 use Rattle.site.proofs.Tests.{and_l, and_r}
 use Rattle.site.proofs.Passing.{ranged_passed}
 use Rattle.site.proofs.FieldLaws.{site_passed}
@@ -35,12 +36,12 @@ unfolding row_of row_by
 says s p = judged_says s p
 
 -- a name has none of the bytes that are not a name's, so no 0A and no space
-name_free : (b : ℕ) → name_byte b ≡ false → (xs : List ℕ) → all_of name_byte xs ≡ true → free b xs ≡ true
-unfolding all_of free
+name_free : (b : ℕ) → name_byte b ≡ false → (xs : List ℕ) → list_all name_byte xs ≡ true → free b xs ≡ true
+unfolding list_all free
 name_free b n [] e = refl
 name_free b n (x ∷ xs) e =
-    let first = and_l (name_byte x) (all_of name_byte xs) e in
-    free-cons b x xs (λ q. false≢true (sym n ∙ ap name_byte (sym q) ∙ first)) (name_free b n xs (and_r (name_byte x) (all_of name_byte xs) e))
+    let first = and_l (name_byte x) (list_all name_byte xs) e in
+    free-cons b x xs (λ q. false≢true (sym n ∙ ap name_byte (sym q) ∙ first)) (name_free b n xs (and_r (name_byte x) (list_all name_byte xs) e))
 
 pub site_name_free : (b : ℕ) → name_byte b ≡ false → (s : Site) → site_rule s ≡ Passed → free b (name_text (row_of s)) ≡ true
 unfolding row_of row_by name_text value_rule

@@ -6,7 +6,8 @@ use Rattle.site.specs.ExampleSite.{a1}
 use Rattle.site.specs.Bytes.{tabulate, entry_at}
 use Rattle.field.specs.Field.{store, entries_bytes, blank_site, value}
 use Rattle.field.specs.Kind.{field_rule}
-use Rattle.site.specs.Values.{length_permitted, value_rule, stand_rule, between, name_byte, all_of, entry_ranged, rising_from, shares_of}
+use Rattle.site.specs.Values.{length_permitted, value_rule, stand_rule, between, name_byte, entry_ranged, rising_from, shares_of}
+use Rattle.std.specs.List.{list_all}
 use Rattle.record.specs.FieldParts.{field_of}
 use Rattle.record.specs.Result.{unless}
 use Rattle.record.specs.Fields.{head_rule, walk_fields, encode_fields, encode_as}
@@ -36,7 +37,7 @@ bytes_a1 =
     ∷ []
 
 pub a1_read : read_record bytes_a1 ≡ accepted a1
-unfolding read_record read_of single only_one site_at record_in ending outer_rule head_rule unless walk_fields field_rule accepted length_permitted tabulate entry_at store value_rule stand_rule between name_byte all_of entry_ranged rising_from shares_of blank_site
+unfolding read_record read_of single only_one site_at record_in ending outer_rule head_rule unless walk_fields field_rule accepted length_permitted tabulate entry_at store value_rule stand_rule between name_byte entry_ranged rising_from shares_of blank_site
 a1_read = refl
 
 pub a1_written : encode a1 ≡ bytes_a1

@@ -7,7 +7,8 @@ use Rattle.site.specs.ExampleSite.{a1}
 use Rattle.site.specs.Refusal.{and_then}
 use Rattle.site.specs.Check.{fields_rule, site_rule}
 use Rattle.site.specs.Bytes.{tabulate, entry_at}
-use Rattle.site.specs.Values.{length_permitted, item_count, count_rule, value_rule, stand_rule, between, name_byte, all_of, entry_ranged, rising_from, shares_of}
+use Rattle.site.specs.Values.{length_permitted, item_count, count_rule, value_rule, stand_rule, between, name_byte, entry_ranged, rising_from, shares_of}
+use Rattle.std.specs.List.{list_all}
 use Rattle.field.specs.Field.{store, entries_bytes, blank_site, value}
 use Rattle.field.specs.Kind.{field_rule}
 use Rattle.output.specs.Output.{room_rule, output_rule, output_numbers}
@@ -56,10 +57,10 @@ refusals =
     ∷ []
 
 refusals_agree : map (λ (r : Refusal). result_numbers (only_site r.bytes)) refusals ≡ map (λ (r : Refusal). r.given) refusals
-unfolding result_numbers single only_one site_at record_in ending outer_rule head_rule unless walk_fields field_rule length_permitted tabulate entry_at store value_rule stand_rule between name_byte all_of entry_ranged rising_from shares_of blank_site
+unfolding result_numbers single only_one site_at record_in ending outer_rule head_rule unless walk_fields field_rule length_permitted tabulate entry_at store value_rule stand_rule between name_byte entry_ranged rising_from shares_of blank_site
 refusals_agree = refl
 
 -- A1 has 78 bytes, and 77 are lent
 short_buffer : output_numbers (write_rule a1 77) 78 ≡ (11, 0)
-unfolding output_numbers output_rule room_rule and_then site_rule fields_rule count_rule item_count value_rule stand_rule between name_byte all_of entry_ranged rising_from shares_of encode_as encode_fields field_of value entries_bytes
+unfolding output_numbers output_rule room_rule and_then site_rule fields_rule count_rule item_count value_rule stand_rule between name_byte entry_ranged rising_from shares_of encode_as encode_fields field_of value entries_bytes
 short_buffer = refl

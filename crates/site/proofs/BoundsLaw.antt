@@ -12,11 +12,12 @@ use borrow.Author.Tests.{leb-true}
 use Rattle.site.specs.declared.Site.{Site}
 use Rattle.site.specs.declared.Entry.{Entry}
 use Rattle.site.specs.declared.Rule.TheVariants.{OutOfRange}
-use Rattle.site.specs.declared.Checked.TheVariants.{Passed}
+use Rattle.std.specs.Prelude.{Ok}
+use Rattle.std.specs.List.{list_all}
 use Rattle.site.specs.Bounds.{no_entry, EntryBounds, StandBounds, Bounds}
 use Rattle.site.specs.Check.{site_rule}
 use Rattle.site.specs.Ranges.{parent_range, depth_range, percolation_range, most_species, share_range, most_yield, immobilisation_range, available_range, base_deposition_range, ratio_range, gibbsite_range, ceiling_range, leachate_range}
-use Rattle.site.specs.Values.{due, count_rule, item_count, value_rule, stand_rule, entry_ranged, all_of, inside}
+use Rattle.site.specs.Values.{due, count_rule, item_count, value_rule, stand_rule, entry_ranged, inside}
 use Rattle.site.proofs.Tests.{le_or_lt, and_l, and_r}
 use Rattle.site.proofs.Passing.{pass_then, inside_both, between_passed}
 use Rattle.site.proofs.PartLaws.{test_at}
@@ -39,7 +40,7 @@ entry_bounds e p =
 no_entry_bounds : EntryBounds no_entry
 no_entry_bounds = record { species = omega arith; share = omega arith; yielded = omega arith }
 
-each_bounds : (es : List Entry) (n : ℕ) → all_of entry_ranged (take n es) ≡ true → (i : ℕ) → i < n → EntryBounds (get_or es i no_entry)
+each_bounds : (es : List Entry) (n : ℕ) → list_all entry_ranged (take n es) ≡ true → (i : ℕ) → i < n → EntryBounds (get_or es i no_entry)
 each_bounds es n p i h =
     ⊎_elim
     (λ (past : length es ≤ i). rw (get_or-eq_default es no_entry {n = i} past) no_entry_bounds)
@@ -48,17 +49,17 @@ each_bounds es n p i h =
     rw get_or-take at (entry_bounds (get_or (take n es) i no_entry) (test_at entry_ranged (take n es) i no_entry l p)))
     (le_or_lt (length es) i)
 
-stand_bounds : (s : Site) → count_rule 7 s ≡ Passed → value_rule 7 s ≡ Passed → StandBounds s.stand s.entries
+stand_bounds : (s : Site) → count_rule 7 s ≡ Ok tt → value_rule 7 s ≡ Ok tt → StandBounds s.stand s.entries
 unfolding item_count value_rule stand_rule
 stand_bounds s c v =
     let n = s.entries in
     record {
       count = (count_parts 7 s c).1;
-      each = each_bounds s.stand n (pass_then (all_of entry_ranged (take n s.stand)) OutOfRange _ v).0;
+      each = each_bounds s.stand n (pass_then (list_all entry_ranged (take n s.stand)) OutOfRange _ v).0;
     }
 
-module _ (s : Site) (e : site_rule s ≡ Passed) where
-  value_at_lem : (k : ℕ) → k < 15 → value_rule (get_or due k 0) s ≡ Passed
+module _ (s : Site) (e : site_rule s ≡ Ok tt) where
+  value_at_lem : (k : ℕ) → k < 15 → value_rule (get_or due k 0) s ≡ Ok tt
   value_at_lem k h = (site_passed s e k h).1
 
   pub bounds : Bounds s

@@ -10,19 +10,17 @@ use lib.ListN.{get_or-eq_default}
 use borrow.Author.Tests.{leb-true, le-leb, lt-leb, eqb-true, eq-eqb}
 use Rattle.site.specs.declared.Site.{Site}
 use Rattle.site.specs.declared.Rule.TheVariants.{BadLength}
-use Rattle.site.specs.declared.Checked.TheVariants.{Passed}
-use Rattle.site.specs.Values.{no_items, field_items, items_of, length_permitted, item_count, count_rule, all_of}
+use Rattle.std.specs.Prelude.{Ok}
+use Rattle.site.specs.Values.{no_items, field_items, items_of, length_permitted, item_count, count_rule}
 use Rattle.site.proofs.Tests.{le_or_lt, and_l, and_r}
 use Rattle.site.proofs.Passing.{pass_then}
 use Rattle.site.proofs.PartLaws.{all_get_d}
 
 -- bounds of every row, by a test over the table
 pub width_positive : (t : ℕ) → 1 ≤ (items_of t).width
-unfolding all_of
 width_positive t = leb-true 1 (items_of t).width (all_get_d (λ i. leb 1 i.width) field_items t no_items refl refl)
 
 pub longest : (t : ℕ) → (items_of t).width * (items_of t).most ≤ 16
-unfolding all_of
 longest t = leb-true ((items_of t).width * (items_of t).most) 16 (all_get_d (λ i. leb (i.width * i.most) 16) field_items t no_items refl refl)
 
 pub permitted_none : (t n : ℕ) → n < 1 → length_permitted t n ≡ false
@@ -66,15 +64,15 @@ one_item t n one e =
     (le_or_lt w n)
 
 -- what a permitted count of items says
-pub count_parts : (t : ℕ) (s : Site) → count_rule t s ≡ Passed → (1 ≤ item_count t s) × (item_count t s ≤ (items_of t).most)
+pub count_parts : (t : ℕ) (s : Site) → count_rule t s ≡ Ok tt → (1 ≤ item_count t s) × (item_count t s ≤ (items_of t).most)
 unfolding count_rule
 count_parts t s e =
     let n = item_count t s in
     let m = (items_of t).most in
-    let both = (pass_then (leb 1 n && leb n m) BadLength Passed e).0 in
+    let both = (pass_then (leb 1 n && leb n m) BadLength (Ok tt) e).0 in
     (leb-true 1 n (and_l (leb 1 n) (leb n m) both), leb-true n m (and_r (leb 1 n) (leb n m) both))
 
-pub parts_counted : (t : ℕ) (s : Site) → 1 ≤ item_count t s → item_count t s ≤ (items_of t).most → count_rule t s ≡ Passed
+pub parts_counted : (t : ℕ) (s : Site) → 1 ≤ item_count t s → item_count t s ≤ (items_of t).most → count_rule t s ≡ Ok tt
 unfolding count_rule
 parts_counted t s some most = rw (le-leb _ _ some, le-leb _ _ most)
 

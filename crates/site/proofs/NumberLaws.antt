@@ -7,37 +7,38 @@ use lib.Dec.{leb, eqb}
 use Rattle.site.specs.declared.Site.{Site}
 use Rattle.site.specs.declared.Entry.{Entry}
 use Rattle.site.specs.declared.Rule.TheVariants.{NoBytes, OuterCut, OuterTag, TooMany, InnerCut, InnerTag, BadLength, OutOfRange, NotRising, SharesNotWhole, BufferShort, BadConcentration, NoReading, PairTooLarge}
-use Rattle.site.specs.declared.Checked.{Checked}
-use Rattle.site.specs.declared.Checked.TheVariants.{Passed, Broken}
+use Rattle.site.specs.Refusal.{Checked, rule_number, checked_number, Numbered, passes, bad_length, out_of_range, not_rising, shares_not_whole, and_then}
+use Rattle.std.specs.Prelude.{Ok, Err}
+use Rattle.std.specs.List.{list_all}
 use Rattle.site.specs.Choice.{pick}
-use Rattle.site.specs.Refusal.{rule_number, checked_number, Numbered, passes, bad_length, out_of_range, not_rising, shares_not_whole, and_then}
-use Rattle.site.specs.Ranges.{Range, share_sum}
-use Rattle.site.specs.Values.{items_of, item_count, count_rule, ranged, inside, between, entry_ranged, rising_from, shares_of, order_rule, stand_rule, value_rules, value_rule, all_of}
+use Rattle.site.specs.declared.ranges.Range.{Range}
+use Rattle.site.specs.Ranges.{share_sum}
+use Rattle.site.specs.Values.{items_of, item_count, count_rule, ranged, inside, between, entry_ranged, rising_from, shares_of, order_rule, stand_rule, value_rules, value_rule}
 use Rattle.site.specs.Check.{fields_rule, site_rule}
 use Rattle.site.proofs.PartLaws.{all_get_d}
 
 -- no rule, or one of 7 to 10
 unfoldable pub known : Checked → Bool
-known Passed = true
-known (Broken r) = leb 7 (rule_number r) && leb (rule_number r) 10
+known (Ok tt) = true
+known (Err r) = leb 7 (rule_number r) && leb (rule_number r) 10
 
 number_of : (c : Checked) → known c ≡ true → Numbered c (checked_number c)
 unfolding known checked_number
-number_of Passed e = passes
-number_of (Broken NoBytes) e = absurd (false≢true e)
-number_of (Broken OuterCut) e = absurd (false≢true e)
-number_of (Broken OuterTag) e = absurd (false≢true e)
-number_of (Broken TooMany) e = absurd (false≢true e)
-number_of (Broken InnerCut) e = absurd (false≢true e)
-number_of (Broken InnerTag) e = absurd (false≢true e)
-number_of (Broken BadLength) e = bad_length
-number_of (Broken OutOfRange) e = out_of_range
-number_of (Broken NotRising) e = not_rising
-number_of (Broken SharesNotWhole) e = shares_not_whole
-number_of (Broken BufferShort) e = absurd (false≢true e)
-number_of (Broken BadConcentration) e = absurd (false≢true e)
-number_of (Broken NoReading) e = absurd (false≢true e)
-number_of (Broken PairTooLarge) e = absurd (false≢true e)
+number_of (Ok tt) e = passes
+number_of (Err NoBytes) e = absurd (false≢true e)
+number_of (Err OuterCut) e = absurd (false≢true e)
+number_of (Err OuterTag) e = absurd (false≢true e)
+number_of (Err TooMany) e = absurd (false≢true e)
+number_of (Err InnerCut) e = absurd (false≢true e)
+number_of (Err InnerTag) e = absurd (false≢true e)
+number_of (Err BadLength) e = bad_length
+number_of (Err OutOfRange) e = out_of_range
+number_of (Err NotRising) e = not_rising
+number_of (Err SharesNotWhole) e = shares_not_whole
+number_of (Err BufferShort) e = absurd (false≢true e)
+number_of (Err BadConcentration) e = absurd (false≢true e)
+number_of (Err NoReading) e = absurd (false≢true e)
+number_of (Err PairTooLarge) e = absurd (false≢true e)
 
 pub numbered : (a b : Checked) → a ≡ b → known b ≡ true → Numbered b (checked_number a)
 numbered a b e k = rw e (number_of b k)
@@ -48,16 +49,16 @@ known_pick false a b p q = q
 
 known_then : (a b : Checked) → known a ≡ true → known b ≡ true → known (and_then a b) ≡ true
 unfolding and_then
-known_then Passed b p q = q
-known_then (Broken r) b p q = p
+known_then (Ok tt) b p q = q
+known_then (Err r) b p q = p
 
-known_passed : known Passed ≡ true
+known_passed : known (Ok tt) ≡ true
 unfolding known
 known_passed = refl
 
 known_ranged : (t : Bool) → known (ranged t) ≡ true
 unfolding known
-known_ranged t = known_pick t Passed (Broken OutOfRange) refl refl
+known_ranged t = known_pick t (Ok tt) (Err OutOfRange) refl refl
 
 known_between : (r : Range) (x : ℕ) → known (between r x) ≡ true
 unfolding between
@@ -75,15 +76,15 @@ unfolding stand_rule known
 known_stand es =
     let rising = rising_from 0 es in
     let whole = eqb (shares_of es) share_sum in
-    known_pick (all_of entry_ranged es) (order_rule rising whole) (Broken OutOfRange) (known_order rising whole) refl
+    known_pick (list_all entry_ranged es) (order_rule rising whole) (Err OutOfRange) (known_order rising whole) refl
 
 known_count : (t : ℕ) (s : Site) → known (count_rule t s) ≡ true
 unfolding count_rule known
-known_count t s = known_pick (leb 1 (item_count t s) && leb (item_count t s) (items_of t).most) Passed (Broken BadLength) refl refl
+known_count t s = known_pick (leb 1 (item_count t s) && leb (item_count t s) (items_of t).most) (Ok tt) (Err BadLength) refl refl
 
 pub known_value : (t : ℕ) (s : Site) → known (value_rule t s) ≡ true
-unfolding value_rule all_of
-known_value t s = all_get_d known (value_rules s) t Passed known_passed (simp (known_passed, known_ranged, known_between, known_stand))
+unfolding value_rule
+known_value t s = all_get_d known (value_rules s) t (Ok tt) known_passed (simp (known_passed, known_ranged, known_between, known_stand))
 
 known_fields : (ts : List ℕ) (s : Site) → known (fields_rule ts s) ≡ true
 unfolding fields_rule

@@ -2,20 +2,22 @@
 use mathlib.Core.Path.{◌≡◌}
 use mathlib.Core.Bool.{true, false, ◌&&◌, and-true, and_assoc}
 use mathlib.Core.List.{List}
-use Prim.Native.Nat.{ℕ, ◌+◌, ◌≤◌, ◌<◌, min}
+use Prim.Native.Nat.{ℕ, ◌+◌, ◌≤◌, ◌<◌}
+use native.Mathlib.Numerals.{add-one}
 use native.Mathlib.Nat.{add-zero, zero-add, add_assoc}
 use lib.Dec.{leb, eqb}
-use lib.ListN.{length, get_or, take, drop}
+use lib.ListN.{length, get_or, drop, drop_of_length-le}
+use lib.Seq.{drop-cons}
 use Rattle.site.specs.declared.Entry.{Entry}
 use Rattle.site.specs.declared.stand.Seen.{Seen}
 use Rattle.site.specs.declared.Rule.TheVariants.{OutOfRange}
-use Rattle.site.specs.declared.Checked.{Checked}
-use Rattle.site.specs.declared.Checked.TheVariants.{Broken}
+use Rattle.site.specs.Refusal.{Checked}
+use Rattle.std.specs.Prelude.{Err}
+use Rattle.std.specs.List.{list_all}
 use Rattle.site.specs.Bounds.{no_entry}
 use Rattle.site.specs.Choice.{pick}
 use Rattle.site.specs.Ranges.{share_sum}
-use Rattle.site.specs.Values.{all_of, entry_ranged, rising_from, shares_of, order_rule, stand_rule}
-use Rattle.site.proofs.PartLaws.{part_cons, part_end}
+use Rattle.site.specs.Values.{entry_ranged, rising_from, shares_of, order_rule, stand_rule}
 
 -- what no entry has shown, and what one more adds
 abbrev start : Seen
@@ -27,23 +29,23 @@ with_entry s e = record { rising = s.rising && leb s.least e.species; least = e.
 -- rules 8 to 10, with es the entries left
 unfoldable pub rest_rule : Seen → List Entry → Checked
 rest_rule s es =
-    pick (all_of entry_ranged es) (order_rule (s.rising && rising_from s.least es) (eqb (s.shares + shares_of es) share_sum)) (Broken OutOfRange)
+    pick (list_all entry_ranged es) (order_rule (s.rising && rising_from s.least es) (eqb (s.shares + shares_of es) share_sum)) (Err OutOfRange)
 
 pub rest_start : (es : List Entry) → stand_rule es ≡ rest_rule start es
 unfolding stand_rule rest_rule
 rest_start es = rw zero-add
 
-module _ (n i : ℕ) (l : List Entry) (s : Seen) where
-  pub rest_end : min n (length l) ≤ i → rest_rule s (drop i (take n l)) ≡ order_rule s.rising (eqb s.shares share_sum)
-  unfolding rest_rule all_of rising_from shares_of
-  rest_end h = rw (part_end n i l h, and-true, add-zero)
+module _ (es : List Entry) (i : ℕ) (s : Seen) where
+  pub rest_end : length es ≤ i → rest_rule s (drop i es) ≡ order_rule s.rising (eqb s.shares share_sum)
+  unfolding rest_rule rising_from shares_of
+  rest_end h = rw (drop_of_length-le es {i = i} h, and-true, add-zero)
 
-  module _ (h : i < min n (length l)) where
-    pub rest_next : entry_ranged (get_or l i no_entry) ≡ true
-        → rest_rule s (drop i (take n l)) ≡ rest_rule (with_entry s (get_or l i no_entry)) (drop (i + 1) (take n l))
-    unfolding rest_rule all_of rising_from shares_of
-    rest_next e = rw (part_cons n i l no_entry h, e, and_assoc, add_assoc)
+  module _ (h : i < length es) where
+    pub rest_next : entry_ranged (get_or es i no_entry) ≡ true
+        → rest_rule s (drop i es) ≡ rest_rule (with_entry s (get_or es i no_entry)) (drop (i + 1) es)
+    unfolding rest_rule rising_from shares_of
+    rest_next e = rw (add-one, drop-cons es i no_entry h, e, and_assoc, add_assoc)
 
-    pub rest_stop : entry_ranged (get_or l i no_entry) ≡ false → rest_rule s (drop i (take n l)) ≡ Broken OutOfRange
-    unfolding rest_rule all_of
-    rest_stop e = rw (part_cons n i l no_entry h, e)
+    pub rest_stop : entry_ranged (get_or es i no_entry) ≡ false → rest_rule s (drop i es) ≡ Err OutOfRange
+    unfolding rest_rule
+    rest_stop e = rw (drop-cons es i no_entry h, e)

@@ -1,9 +1,6 @@
 -- Document 01, "The site's values": the range of each value, and how many bytes and entries there may be.
 use Rattle.std.specs.Prelude.{ℕ}
-
-pub record Range : Type 0 where
-  pub least : ℕ
-  pub most : ℕ
+use Rattle.site.specs.declared.ranges.Range.{Range}
 
 -- 01 name
 abbrev pub most_name : ℕ

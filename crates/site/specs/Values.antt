@@ -1,13 +1,14 @@
 -- Document 01, "The site's values": what rules 7 to 10 ask of each field, by its tag.
-use Rattle.std.specs.Prelude.{ℕ, ◌+◌, ◌*◌, ◌%◌, Bool, true, ◌&&◌, ◌||◌, List, [], ◌∷◌, leb, eqb, get_or, take}
+use Rattle.std.specs.List.{list_all}
+use Rattle.std.specs.Prelude.{ℕ, ◌+◌, ◌*◌, ◌%◌, Bool, true, ◌&&◌, ◌||◌, List, [], ◌∷◌, leb, eqb, get_or, take, Ok, Err}
 use Rattle.site.specs.Choice.{pick}
-use Rattle.site.specs.Ranges.{Range, most_name, parent_range, most_texture, depth_range, drainage_range, percolation_range, most_entries, most_species, share_range, most_yield, share_sum, immobilisation_range, available_range, base_deposition_range, ratio_range, gibbsite_range, ceiling_range, leachate_range}
+use Rattle.site.specs.declared.ranges.Range.{Range}
+use Rattle.site.specs.Ranges.{most_name, parent_range, most_texture, depth_range, drainage_range, percolation_range, most_entries, most_species, share_range, most_yield, share_sum, immobilisation_range, available_range, base_deposition_range, ratio_range, gibbsite_range, ceiling_range, leachate_range}
 use Rattle.site.specs.declared.Site.{Site}
 use Rattle.site.specs.declared.Entry.{Entry}
 use Rattle.site.specs.declared.length.Items.{Items}
 use Rattle.site.specs.declared.Rule.TheVariants.{BadLength, OutOfRange, NotRising, SharesNotWhole}
-use Rattle.site.specs.declared.Checked.{Checked}
-use Rattle.site.specs.declared.Checked.TheVariants.{Passed, Broken}
+use Rattle.site.specs.Refusal.{Checked}
 
 -- the tags 01 to 0F
 abbrev pub due : List ℕ
@@ -53,19 +54,15 @@ unfoldable pub item_count : ℕ → Site → ℕ
 item_count t s = pick (eqb t 1) s.name_len (pick (eqb t 7) s.entries 1)
 
 unfoldable pub count_rule : ℕ → Site → Checked
-count_rule t s = pick (leb 1 (item_count t s) && leb (item_count t s) (items_of t).most) Passed (Broken BadLength)
+count_rule t s = pick (leb 1 (item_count t s) && leb (item_count t s) (items_of t).most) (Ok tt) (Err BadLength)
 
 -- A–Z, 0–9, hyphen
 unfoldable pub name_byte : ℕ → Bool
 name_byte b = leb 65 b && leb b 90 || leb 48 b && leb b 57 || eqb b 45
 
-unfoldable pub all_of {ℓ} : {A : Type ℓ} → (A → Bool) → List A → Bool
-all_of f [] = true
-all_of f (x ∷ xs) = f x && all_of f xs
-
 -- rule 8
 abbrev pub ranged : Bool → Checked
-ranged b = pick b Passed (Broken OutOfRange)
+ranged b = pick b (Ok tt) (Err OutOfRange)
 
 abbrev pub inside : Range → ℕ → Bool
 inside r x = leb r.least x && leb x r.most
@@ -87,17 +84,17 @@ shares_of (e ∷ es) = e.share + shares_of es
 
 -- rule 9, then 10, by whether species rise and shares are whole
 abbrev pub order_rule : Bool → Bool → Checked
-order_rule rising whole = pick rising (pick whole Passed (Broken SharesNotWhole)) (Broken NotRising)
+order_rule rising whole = pick rising (pick whole (Ok tt) (Err SharesNotWhole)) (Err NotRising)
 
 -- rule 8 over all entries, then 9, then 10
 unfoldable pub stand_rule : List Entry → Checked
-stand_rule es = pick (all_of entry_ranged es) (order_rule (rising_from 0 es) (eqb (shares_of es) share_sum)) (Broken OutOfRange)
+stand_rule es = pick (list_all entry_ranged es) (order_rule (rising_from 0 es) (eqb (shares_of es) share_sum)) (Err OutOfRange)
 
 -- rules 8, 9 and 10 of each field, by tag from 0; the deposition's range is all that two bytes hold, so it has no rule
 abbrev pub value_rules : Site → List Checked
 value_rules s =
-    Passed
-    ∷ ranged (all_of name_byte (take s.name_len s.name))  -- 01
+    Ok tt
+    ∷ ranged (list_all name_byte (take s.name_len s.name))  -- 01
     ∷ between parent_range s.parent  -- 02
     ∷ ranged (leb (s.clay + s.sand) most_texture)  -- 03
     ∷ between depth_range s.depth  -- 04
@@ -114,4 +111,4 @@ value_rules s =
     ∷ []
 
 unfoldable pub value_rule : ℕ → Site → Checked
-value_rule t s = get_or (value_rules s) t Passed
+value_rule t s = get_or (value_rules s) t (Ok tt)

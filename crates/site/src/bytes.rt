@@ -4,21 +4,13 @@ ghost use Rattle.site.specs.Bytes.{name_in, entry_at};
 
 use crate::Entry;
 use numbers::{byte, word_at};
+use std::array;
 
 #[tactic(auto, unfolding(crate::specs::Bytes::tabulate))]
 pub fn name_in(s: &[u8]) -> [u8; 8]
     ensures { result ≡ name_in s.now }
 {
-    [
-        byte(s, 0),
-        byte(s, 1),
-        byte(s, 2),
-        byte(s, 3),
-        byte(s, 4),
-        byte(s, 5),
-        byte(s, 6),
-        byte(s, 7),
-    ]
+    array::from_fn(|i| byte(s, i))
 }
 
 // The entry whose four bytes start at i.

@@ -2,8 +2,7 @@
 ghost use Rattle.std.specs.Prelude.{◌≡◌};
 ghost use Rattle.site.specs.Values.{items_of, length_permitted, item_count, count_rule};
 
-use crate::{Checked, Rule, Site};
-use numbers::wide;
+use crate::{Rule, Site};
 
 // How many bytes an item of a field has, and how many items there may be.
 #[derive(Clone, Copy)]
@@ -45,15 +44,11 @@ pub fn length_permitted(tag: u8, n: usize) -> bool
         return false;
     }
     let items = items_of(tag);
-    let width = items.width;
-    if width * items.most < n {
+    if items.width * items.most < n {
         return false;
     }
     // most fields are one item, and need no division
-    if n == width {
-        return true;
-    }
-    n % width == 0
+    n == items.width || n % items.width == 0
 }
 
 #[tactic(auto, unfolding(crate::specs::Values::item_count))]
@@ -61,23 +56,19 @@ fn item_count(site: Site, tag: u8) -> usize
     ensures { result ≡ item_count tag site }
 {
     match tag {
-        1 => wide(site.name_len),
-        7 => wide(site.entries),
+        1 => usize::from(site.name_len),
+        7 => usize::from(site.entries),
         _ => 1,
     }
 }
 
 #[tactic(auto, unfolding(crate::specs::Values::count_rule))]
-pub fn count_rule(site: Site, tag: u8) -> Checked
+pub fn count_rule(site: Site, tag: u8) -> Result<(), Rule>
     ensures { result ≡ count_rule tag site }
 {
     let n = item_count(site, tag);
-    if n < 1 {
-        return Checked::Broken(Rule::BadLength);
+    if n < 1 || items_of(tag).most < n {
+        return Err(Rule::BadLength);
     }
-    let items = items_of(tag);
-    if n <= items.most {
-        return Checked::Passed;
-    }
-    Checked::Broken(Rule::BadLength)
+    Ok(())
 }

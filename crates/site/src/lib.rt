@@ -1,7 +1,6 @@
 // The value of a forest site, the rules of document 01, and the check of a site value.
 #![tactic(auto)]
 
-mod between;
 mod bytes;
 mod check;
 mod length;
@@ -16,8 +15,8 @@ pub use check::check_site;
 pub use length::length_permitted;
 pub use name::name_rule;
 pub use ranges::{
-    available_rule, base_deposition_rule, ceiling_rule, depth_rule, drainage_rule, gibbsite_rule,
-    immobilisation_rule, leachate_rule, parent_rule, percolation_rule, ratio_rule, texture_rule,
+    AVAILABLE, BASE_DEPOSITION, CEILING, DEPTH, DRAINAGE, GIBBSITE, IMMOBILISATION, LEACHATE,
+    PARENT, PERCOLATION, RATIO, Range, texture_rule,
 };
 pub use rules::rule_number;
 pub use stand::stand_rule;
@@ -79,11 +78,4 @@ pub enum Rule {
 pub struct Refusal {
     pub rule: Rule,
     pub at: usize,
-}
-
-// What a check says.
-#[derive(Clone, Copy)]
-pub enum Checked {
-    Passed,
-    Broken(Rule),
 }

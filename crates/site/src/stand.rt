@@ -3,21 +3,13 @@ ghost use Rattle.std.specs.Prelude.{◌&&◌, ◌≡◌, ◌+◌, ◌*◌, ◌�
 ghost use Rattle.site.specs.Ranges.{most_entries, share_range, share_sum};
 ghost use Rattle.site.specs.Values.{entry_ranged, order_rule, stand_rule};
 
-use crate::{Checked, Entry, Rule};
-use numbers::wide;
+use crate::{Entry, Rule};
 
 #[tactic(auto, unfolding(crate::specs::Values::entry_ranged))]
 fn entry_ranged(e: Entry) -> bool
     ensures { result ≡ entry_ranged e }
 {
-    if e.species <= 8 {
-        if 1 <= e.share {
-            if e.share <= 100 {
-                return e.yield_kg <= 20000;
-            }
-        }
-    }
-    false
+    e.species <= 8 && (1..=100).contains(&e.share) && e.yield_kg <= 20000
 }
 
 // What entries in range have shown: whether their species rise, the least that the next may be, and the sum of their shares.
@@ -28,62 +20,47 @@ struct Seen {
     shares: usize,
 }
 
-fn with_entry(seen: Seen, e: Entry) -> Seen
-    requires { seen.shares ≤ share_range.most * most_entries }
-    ensures { result ≡ record { rising = seen.rising && leb seen.least e.species; least = e.species + 1; shares = seen.shares + e.share } }
-{
-    let species = wide(e.species);
-    let least = species + 1;
-    let shares = seen.shares + wide(e.share);
-    if species < seen.least {
-        return Seen {
-            rising: false,
-            least,
-            shares,
-        };
-    }
-    Seen {
-        rising: seen.rising,
-        least,
-        shares,
-    }
-}
-
-// Rule 9, then 10.
-fn seen_rule(seen: Seen) -> Checked
-    ensures { result ≡ order_rule seen.rising (eqb seen.shares share_sum) }
-{
-    if seen.rising {
-        if seen.shares == 100 {
-            return Checked::Passed;
+impl Seen {
+    fn with(self, e: Entry) -> Seen
+        requires { self.shares ≤ share_range.most * most_entries }
+        ensures { result ≡ record { rising = self.rising && leb self.least e.species; least = e.species + 1; shares = self.shares + e.share } }
+    {
+        let species = usize::from(e.species);
+        Seen {
+            rising: self.rising && self.least <= species,
+            least: species + 1,
+            shares: self.shares + usize::from(e.share),
         }
-        return Checked::Broken(Rule::SharesNotWhole);
     }
-    Checked::Broken(Rule::NotRising)
+
+    // Rule 9, then 10.
+    fn rule(self) -> Result<(), Rule>
+        ensures { result ≡ order_rule self.rising (eqb self.shares share_sum) }
+    {
+        if !self.rising {
+            return Err(Rule::NotRising);
+        }
+        if self.shares != 100 {
+            return Err(Rule::SharesNotWhole);
+        }
+        Ok(())
+    }
 }
 
-#[tactic(auto, using(crate::proofs::BoundsLaw::entry_bounds, crate::proofs::StandLaws::rest_rule, crate::proofs::StandLaws::rest_start, crate::proofs::StandLaws::rest_end, crate::proofs::StandLaws::rest_next, crate::proofs::StandLaws::rest_stop))]
-pub fn stand_rule(stand: [Entry; 4], n: u8) -> Checked
+#[tactic(auto, using(crate::proofs::BoundsLaw::entry_bounds, crate::proofs::PartLaws::take_min, crate::proofs::StandLaws::rest_rule, crate::proofs::StandLaws::rest_start, crate::proofs::StandLaws::rest_end, crate::proofs::StandLaws::rest_next, crate::proofs::StandLaws::rest_stop))]
+pub fn stand_rule(stand: [Entry; 4], n: u8) -> Result<(), Rule>
     ensures { result ≡ stand_rule (take n stand) }
 {
-    let count = wide(n);
     let mut seen = Seen {
         rising: true,
         least: 0,
         shares: 0,
     };
-    let mut i: usize = 0;
-    while i < 4 {
-        if count <= i {
-            break;
+    for e in &stand[..usize::from(n).min(4)] {
+        if !entry_ranged(*e) {
+            return Err(Rule::OutOfRange);
         }
-        let e = stand[i];
-        if entry_ranged(e) {
-            seen = with_entry(seen, e);
-            i += 1;
-        } else {
-            return Checked::Broken(Rule::OutOfRange);
-        }
+        seen = seen.with(*e);
     }
-    seen_rule(seen)
+    seen.rule()
 }
