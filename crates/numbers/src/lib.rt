@@ -1,8 +1,6 @@
-// Numbers: those that stand in bytes, and raw ones widened.
+// Numbers that stand in bytes.
 #![tactic(auto)]
 
 mod bytes;
-mod widen;
 
-pub use bytes::{byte, word, word_at};
-pub use widen::{wide, wide8, wide16};
+pub use bytes::{byte, word_at};
