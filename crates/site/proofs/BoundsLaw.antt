@@ -49,13 +49,13 @@ each_bounds es n p i h =
     rw get_or-take at (entry_bounds (get_or (take n es) i no_entry) (test_at entry_ranged (take n es) i no_entry l p)))
     (le_or_lt (length es) i)
 
-stand_bounds : (s : Site) → count_rule 7 s ≡ Ok tt → value_rule 7 s ≡ Ok tt → StandBounds s.stand s.entries
+stand_bounds : (s : Site) → count_rule 7 s ≡ Ok tt → value_rule 7 s ≡ Ok tt → StandBounds s.stand.entries s.stand.count
 unfolding item_count value_rule stand_rule
 stand_bounds s c v =
-    let n = s.entries in
+    let n = s.stand.count in
     record {
       count = (count_parts 7 s c).1;
-      each = each_bounds s.stand n (pass_then (list_all entry_ranged (take n s.stand)) OutOfRange _ v).0;
+      each = each_bounds s.stand.entries n (pass_then (list_all entry_ranged (take n s.stand.entries)) OutOfRange _ v).0;
     }
 
 module _ (s : Site) (e : site_rule s ≡ Ok tt) where

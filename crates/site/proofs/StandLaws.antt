@@ -9,7 +9,7 @@ use lib.Dec.{leb, eqb}
 use lib.ListN.{length, get_or, drop, drop_of_length-le}
 use lib.Seq.{drop-cons}
 use Rattle.site.specs.declared.Entry.{Entry}
-use Rattle.site.specs.declared.stand.Seen.{Seen}
+use Rattle.site.specs.declared.stands.Seen.{Seen}
 use Rattle.site.specs.declared.Rule.TheVariants.{OutOfRange}
 use Rattle.site.specs.Refusal.{Checked}
 use Rattle.std.specs.Prelude.{Err}

@@ -22,7 +22,7 @@ pub record Bounds (s : Site) : Type 0 where
   pub parent : s.parent ≤ parent_range.most
   pub depth : s.depth ≤ depth_range.most
   pub percolation : s.percolation ≤ percolation_range.most
-  pub stand : StandBounds s.stand s.entries
+  pub stand : StandBounds s.stand.entries s.stand.count
   pub immobilisation : s.immobilisation ≤ immobilisation_range.most
   pub available : s.available ≤ available_range.most
   pub deposition : s.base_deposition ≤ base_deposition_range.most

@@ -5,16 +5,14 @@ use Rattle.site.specs.Bounds.{no_entry}
 
 abbrev pub a1 : Site
 a1 = record {
-  name = 65 ∷ 49 ∷ 0 ∷ 0 ∷ 0 ∷ 0 ∷ 0 ∷ 0 ∷ [];
-  name_len = 2;
+  name = record { bytes = 65 ∷ 49 ∷ 0 ∷ 0 ∷ 0 ∷ 0 ∷ 0 ∷ 0 ∷ []; len = 2 };
   parent = 1;
   clay = 10;
   sand = 65;
   depth = 50;
   drainage = 1;
   percolation = 200;
-  stand = record { species = 0; share = 100; yield_kg = 2000 } ∷ no_entry ∷ no_entry ∷ no_entry ∷ [];
-  entries = 1;
+  stand = record { entries = record { species = 0; share = 100; yield_kg = 2000 } ∷ no_entry ∷ no_entry ∷ no_entry ∷ []; count = 1 };
   immobilisation = 50;
   available = 80;
   base_deposition = 300;

@@ -9,7 +9,7 @@ pub record OneSite (s t : Site) : Type 0 where
   pub depth : s.depth ≡ t.depth
   pub drainage : s.drainage ≡ t.drainage
   pub percolation : s.percolation ≡ t.percolation
-  pub stand : take s.entries s.stand ≡ take t.entries t.stand
+  pub stand : take s.stand.count s.stand.entries ≡ take t.stand.count t.stand.entries
   pub immobilisation : s.immobilisation ≡ t.immobilisation
   pub available : s.available ≡ t.available
   pub deposition : s.base_deposition ≡ t.base_deposition

@@ -51,7 +51,7 @@ length_permitted t n = leb 1 n && leb n ((items_of t).width * (items_of t).most)
 
 -- rule 7 for a site value
 unfoldable pub item_count : ℕ → Site → ℕ
-item_count t s = pick (eqb t 1) s.name_len (pick (eqb t 7) s.entries 1)
+item_count t s = pick (eqb t 1) s.name.len (pick (eqb t 7) s.stand.count 1)
 
 unfoldable pub count_rule : ℕ → Site → Checked
 count_rule t s = pick (leb 1 (item_count t s) && leb (item_count t s) (items_of t).most) (Ok tt) (Err BadLength)
@@ -94,13 +94,13 @@ stand_rule es = pick (list_all entry_ranged es) (order_rule (rising_from 0 es) (
 abbrev pub value_rules : Site → List Checked
 value_rules s =
     Ok tt
-    ∷ ranged (list_all name_byte (take s.name_len s.name))  -- 01
+    ∷ ranged (list_all name_byte (take s.name.len s.name.bytes))  -- 01
     ∷ between parent_range s.parent  -- 02
     ∷ ranged (leb (s.clay + s.sand) most_texture)  -- 03
     ∷ between depth_range s.depth  -- 04
     ∷ between drainage_range s.drainage  -- 05
     ∷ between percolation_range s.percolation  -- 06
-    ∷ stand_rule (take s.entries s.stand)  -- 07
+    ∷ stand_rule (take s.stand.count s.stand.entries)  -- 07
     ∷ between immobilisation_range s.immobilisation  -- 08
     ∷ between available_range s.available  -- 09
     ∷ between base_deposition_range s.base_deposition  -- 0A

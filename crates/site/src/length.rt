@@ -56,8 +56,8 @@ fn item_count(site: Site, tag: u8) -> usize
     ensures { result ≡ item_count tag site }
 {
     match tag {
-        1 => usize::from(site.name_len),
-        7 => usize::from(site.entries),
+        1 => usize::from(site.name.len),
+        7 => usize::from(site.stand.count),
         _ => 1,
     }
 }

@@ -4,22 +4,20 @@
 mod bytes;
 mod check;
 mod length;
-mod name;
+mod names;
 mod ranges;
 mod rules;
-mod stand;
+mod stands;
 mod value;
 
 pub use bytes::{entry_at, name_in};
 pub use check::check_site;
 pub use length::length_permitted;
-pub use name::name_rule;
 pub use ranges::{
     AVAILABLE, BASE_DEPOSITION, CEILING, DEPTH, DRAINAGE, GIBBSITE, IMMOBILISATION, LEACHATE,
     PARENT, PERCOLATION, RATIO, Range, texture_rule,
 };
 pub use rules::rule_number;
-pub use stand::stand_rule;
 
 // An entry of the stand: species, share in percent, yield of a pure stand in kg dry matter per hectare and year.
 #[derive(Clone, Copy)]
@@ -29,20 +27,31 @@ pub struct Entry {
     pub yield_kg: u16,
 }
 
+// The first `len` of the bytes: the others are no part of the name.
+#[derive(Clone, Copy)]
+pub struct Name {
+    pub bytes: [u8; 8],
+    pub len: u8,
+}
+
+// The first `count` of the entries: the others are no part of the stand.
+#[derive(Clone, Copy)]
+pub struct Stand {
+    pub entries: [Entry; 4],
+    pub count: u8,
+}
+
 // The values of document 01, "The site's values", raw: every bad site can be held, and is refused by the check.
-// Name bytes from `name_len` on and entries from `entries` on are no part of the site.
 #[derive(Clone, Copy)]
 pub struct Site {
-    pub name: [u8; 8],
-    pub name_len: u8,
+    pub name: Name,
     pub parent: u8,
     pub clay: u8,
     pub sand: u8,
     pub depth: u8,
     pub drainage: u8,
     pub percolation: u16,
-    pub stand: [Entry; 4],
-    pub entries: u8,
+    pub stand: Stand,
     pub immobilisation: u16,
     pub available: u8,
     pub base_deposition: u16,

@@ -2,12 +2,10 @@
 ghost use Rattle.std.specs.Prelude.{◌≡◌};
 ghost use Rattle.site.specs.Values.{value_rule};
 
-use crate::name::name_rule;
 use crate::ranges::{
     AVAILABLE, BASE_DEPOSITION, CEILING, DEPTH, DRAINAGE, GIBBSITE, IMMOBILISATION, LEACHATE,
     PARENT, PERCOLATION, RATIO, texture_rule,
 };
-use crate::stand::stand_rule;
 use crate::{Rule, Site};
 
 #[tactic(auto, using(crate::proofs::MatchLaws::none_below, crate::proofs::FieldLaws::value_none), unfolding(crate::specs::Values::value_rule))]
@@ -15,13 +13,13 @@ pub fn value_rule(site: Site, tag: u8) -> Result<(), Rule>
     ensures { result ≡ value_rule tag site }
 {
     match tag {
-        1 => name_rule(site.name, site.name_len),
+        1 => site.name.check(),
         2 => PARENT.check(u16::from(site.parent)),
         3 => texture_rule(site.clay, site.sand),
         4 => DEPTH.check(u16::from(site.depth)),
         5 => DRAINAGE.check(u16::from(site.drainage)),
         6 => PERCOLATION.check(site.percolation),
-        7 => stand_rule(site.stand, site.entries),
+        7 => site.stand.check(),
         8 => IMMOBILISATION.check(site.immobilisation),
         9 => AVAILABLE.check(u16::from(site.available)),
         10 => BASE_DEPOSITION.check(site.base_deposition),

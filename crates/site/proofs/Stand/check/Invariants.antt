@@ -2,7 +2,9 @@ use Rattle.std.proofs.Common.{◌≡◌, ◌≤◌, ◌*◌, take, drop}
 use Rattle.site.specs.Ranges.{share_range}
 use Rattle.site.specs.Values.{stand_rule}
 use Rattle.site.proofs.StandLaws.{rest_rule}
-use Rattle.site.proofs.stand.stand_rule.Given as goal
+use Rattle.site.proofs.Stand.check.Given as goal
 
 abbrev pub invariant-loop-e : goal.invariant-loop-e
-invariant-loop-e l = (l.seen.shares ≤ share_range.most * l.e-index) × (stand_rule (take l.n l.fn.stand) ≡ rest_rule l.seen (drop l.e-index l.e-items))
+invariant-loop-e l =
+    (l.seen.shares ≤ share_range.most * l.e-index)
+    × (stand_rule (take l.fn.self.count l.fn.self.entries) ≡ rest_rule l.seen (drop l.e-index l.e-items))

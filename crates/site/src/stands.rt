@@ -1,9 +1,9 @@
-// Rules 8, 9 and 10 for the first n entries of the stand.
+// Rules 8, 9 and 10 for the stand.
 ghost use Rattle.std.specs.Prelude.{◌&&◌, ◌≡◌, ◌+◌, ◌*◌, ◌≤◌, leb, eqb, take};
 ghost use Rattle.site.specs.Ranges.{most_entries, share_range, share_sum};
 ghost use Rattle.site.specs.Values.{entry_ranged, order_rule, stand_rule};
 
-use crate::{Entry, Rule};
+use crate::{Entry, Rule, Stand};
 
 #[tactic(auto, unfolding(crate::specs::Values::entry_ranged))]
 fn entry_ranged(e: Entry) -> bool
@@ -47,20 +47,30 @@ impl Seen {
     }
 }
 
-#[tactic(auto, using(crate::proofs::BoundsLaw::entry_bounds, crate::proofs::PartLaws::take_min, crate::proofs::StandLaws::rest_rule, crate::proofs::StandLaws::rest_start, crate::proofs::StandLaws::rest_end, crate::proofs::StandLaws::rest_next, crate::proofs::StandLaws::rest_stop))]
-pub fn stand_rule(stand: [Entry; 4], n: u8) -> Result<(), Rule>
-    ensures { result ≡ stand_rule (take n stand) }
-{
-    let mut seen = Seen {
-        rising: true,
-        least: 0,
-        shares: 0,
-    };
-    for e in &stand[..usize::from(n).min(4)] {
-        if !entry_ranged(*e) {
-            return Err(Rule::OutOfRange);
-        }
-        seen = seen.with(*e);
+impl Stand {
+    // No entries stand past the fourth.
+    #[tactic(auto, using(crate::proofs::PartLaws::take_min))]
+    pub fn as_slice(&self) -> &[Entry]
+        ensures { result.now ≡ take self.now.count self.now.entries }
+    {
+        &self.entries[..usize::from(self.count).min(4)]
     }
-    seen.rule()
+
+    #[tactic(auto, using(crate::proofs::BoundsLaw::entry_bounds, crate::proofs::StandLaws::rest_rule, crate::proofs::StandLaws::rest_start, crate::proofs::StandLaws::rest_end, crate::proofs::StandLaws::rest_next, crate::proofs::StandLaws::rest_stop))]
+    pub fn check(&self) -> Result<(), Rule>
+        ensures { result ≡ stand_rule (take self.now.count self.now.entries) }
+    {
+        let mut seen = Seen {
+            rising: true,
+            least: 0,
+            shares: 0,
+        };
+        for e in self.as_slice() {
+            if !entry_ranged(*e) {
+                return Err(Rule::OutOfRange);
+            }
+            seen = seen.with(*e);
+        }
+        seen.rule()
+    }
 }
