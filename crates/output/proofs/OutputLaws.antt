@@ -3,17 +3,17 @@ use Prim.Native.Nat.{ℕ, ◌≤◌, ◌<◌}
 use mathlib.Core.Path.{◌≡◌, refl}
 use mathlib.Core.Bool.{Bool, true, false}
 use lib.Dec.{leb}
-use native.Mathlib.Omega.{arith}
 use borrow.Author.Tests.{le-leb, lt-leb, leb-true, leb-false}
+use Rattle.std.specs.Prelude.{Ok, Err}
 use Rattle.site.specs.Refusal.{and_then}
 use Rattle.site.specs.declared.Rule.{Rule}
 use Rattle.site.specs.declared.Rule.TheVariants.{BufferShort}
+use Rattle.site.specs.declared.Refusal.{Refusal}
 use Rattle.site.specs.declared.Checked.TheVariants.{Passed, Broken}
 use Rattle.site.specs.declared.Checked.{Checked}
 use Rattle.site.specs.Choice.{pick}
 use Rattle.site.proofs.Passing.{pass_then, both_passed}
 use Rattle.site.specs.ByCheck.{answer_if}
-use Rattle.output.specs.declared.Written.TheVariants.{Count, Refused}
 use Rattle.output.specs.Output.{room_rule, output_rule, write_answer, written_numbers, output_numbers}
 
 -- the answer says what the rule says
@@ -23,14 +23,14 @@ answer_numbers Passed n = refl
 answer_numbers (Broken r) n = refl
 
 -- its count is that of the output, and a refusal's offset is 0
-pub count_is : (c : Checked) (n : ℕ) {k : ℕ} → write_answer c n ≡ Count k → k ≡ n
+pub count_is : (c : Checked) (n : ℕ) {k : ℕ} → write_answer c n ≡ Ok k → k ≡ n
 unfolding answer_if
 count_is Passed n e = cc
-count_is (Broken r) n e = let z : ◌≡◌ {A = ℕ} 0 1 = cc in absurd (omega arith)
+count_is (Broken r) n e = cc
 
-pub refused_at_0 : (c : Checked) (n : ℕ) {rule : Rule} {at : ℕ} → write_answer c n ≡ Refused rule at → at ≡ 0
+pub refused_at_0 : (c : Checked) (n : ℕ) {r : Refusal} → write_answer c n ≡ Err r → r.at ≡ 0
 unfolding answer_if
-refused_at_0 Passed n e = let z : ◌≡◌ {A = ℕ} 0 1 = cc in absurd (omega arith)
+refused_at_0 Passed n e = cc
 refused_at_0 (Broken r) n e = cc
 
 module _ (needed room : ℕ) where
@@ -49,8 +49,7 @@ module _ (needed room : ℕ) where
       go : (b : Bool) → leb needed room ≡ b → room < needed
       go true q =
           let p : Passed ≡ Broken r = rw q at e in
-          let z : ◌≡◌ {A = ℕ} 0 1 = cc in
-          absurd (omega arith)
+          cc
       go false q = leb-false needed room q
 
   -- the three ways in which an output ends

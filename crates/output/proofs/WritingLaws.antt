@@ -1,12 +1,13 @@
 -- Laws of `write` and `Wrote`. None has a side condition but those that speak of room.
 use Prim.Native.Nat.{ℕ, suc, ◌+◌, ◌≤◌, ◌<◌}
-use mathlib.Core.Path.{◌≡◌, refl, ap, ◌∙◌}
+use mathlib.Core.Path.{◌≡◌, refl, sym, ap, ◌∙◌}
 use mathlib.Core.List.{List, [], ◌∷◌, ◌++◌}
-use native.Mathlib.Nat.{add-zero, zero-add, add_assoc}
+use native.Mathlib.Nat.{add-zero, zero-add}
 use native.Mathlib.Omega.{arith}
-use native.Mathlib.Numerals.{add-one}
-use lib.ListN.{length, get_or, set, take, drop, length-set, length-append}
-use lib.Seq.{take-suc, take_all, set_comm, sets, sets-eq}
+use lib.ListN.{length, set, take, drop, length-set, length-append}
+use lib.Seq.{take-length, set_comm, sets, sets-eq}
+use borrow.Rule.Slice.PartMut.{put_mid}
+use Rattle.std.proofs.lemmas.Slice.{put_mid-paste}
 use Rattle.output.specs.Writing.{write, Wrote, WroteIf}
 
 module _ {A : Type 0} where
@@ -87,15 +88,8 @@ module _ {A : Type 0} where
   pub wrote_some : {d e : List A} {at r : ℕ} {xs : List A} → at + length xs ≤ length d → Wrote d at xs e r → WroteIf d at xs e r
   wrote_some h w = record { fits = λ l. w; short = λ l. absurd (omega arith) }
 
-  -- ---- a loop that copies s, an element a turn
-
-  pub copy_none : (d : List A) (at : ℕ) (s : List A) → Wrote d at (take 0 s) d (at + 0)
-  unfolding write
-  copy_none d at s = record { next = refl; text = refl }
-
-  pub copy_more : {d e : List A} {at : ℕ} (z : A) (s : List A) (j : ℕ) → j < length s → Wrote d at (take j s) e (at + j)
-      → Wrote d at (take (j + 1) s) (set e (at + j) (get_or s j z)) (at + (j + 1))
-  copy_more {d} {e} {at} z s j h w = rw (add-one, take-suc s j z, ← add-one, ← add_assoc) (then w (stored e (at + j) (get_or s j z)))
-
-  pub copy_all : {d e : List A} {at r : ℕ} (s : List A) (j : ℕ) → length s ≤ j → Wrote d at (take j s) e r → Wrote d at s e r
-  copy_all s j h w = rw (take_all j s h) at w
+  -- what a copy of xs to the elements from `at` on leaves
+  pub copied : (d : List A) (at : ℕ) (xs ys : List A) (k : ℕ) → ys ≡ xs → k ≡ length xs → at + length xs ≤ length d → WroteIf d at xs (put_mid at k d ys) (at + length xs)
+  copied d at xs ys k e n h =
+      let left : put_mid at k d ys ≡ take at d ++ xs ++ drop (at + length xs) d = put_mid-paste at k d ys xs (length xs) e (sym n) refl ∙ simp take-length in
+      wrote_some h (record { next = refl; text = left ∙ sym (write-eq d at xs h) })

@@ -1,13 +1,12 @@
 -- Output into a lent buffer: rule 11, what the buffer then holds, and the answer with its numbers.
-use Rattle.std.specs.Prelude.{ℕ, List, ◌++◌, leb, length, drop}
+use Rattle.std.specs.Prelude.{ℕ, List, ◌++◌, leb, length, drop, Result, Ok, Err}
 use Rattle.site.specs.Choice.{pick}
 use Rattle.site.specs.Refusal.{rule_number, and_then}
 use Rattle.site.specs.declared.Rule.TheVariants.{BufferShort}
 use Rattle.site.specs.declared.Checked.{Checked}
 use Rattle.site.specs.declared.Checked.TheVariants.{Passed, Broken}
 use Rattle.site.specs.ByCheck.{answer_if}
-use Rattle.output.specs.declared.Written.{Written}
-use Rattle.output.specs.declared.Written.TheVariants.{Count, Refused}
+use Rattle.site.specs.declared.Refusal.{Refusal}
 
 -- rule 11, where `needed` elements are to stand in a buffer of `room`
 unfoldable pub room_rule : (needed room : ℕ) → Checked
@@ -22,14 +21,18 @@ unfoldable pub held_after : {A : Type 0} → Checked → (xs old : List A) → L
 held_after Passed xs old = xs ++ drop (length xs) old
 held_after (Broken r) xs old = old
 
--- what is answered: how many elements were written, or the rule that is broken, at 0
+-- what is answered: how many elements were written, or the refusal
+abbrev pub Written : Type 0
+Written = Result ℕ Refusal
+
+-- the same by what the output can break: the rule that is broken, at 0
 abbrev pub write_answer : Checked → ℕ → Written
-write_answer c n = answer_if Count (λ rule. Refused rule 0) c n
+write_answer c n = answer_if Ok (λ rule. Err (record { rule = rule; at = 0 })) c n
 
 -- an answer in 01's numbers: that of the refusal, or 0; then how many elements were written, or the offset
 unfoldable pub written_numbers : Written → ℕ × ℕ
-written_numbers (Count n) = (0, n)
-written_numbers (Refused rule at) = (rule_number rule, at)
+written_numbers (Ok n) = (0, n)
+written_numbers (Err r) = (rule_number r.rule, r.at)
 
 -- the same by what the output can break: the number, or 0; then the count, or the offset 0
 unfoldable pub output_numbers : Checked → ℕ → ℕ × ℕ

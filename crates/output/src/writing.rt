@@ -2,19 +2,15 @@
 ghost use Rattle.output.specs.Writing.{WroteIf};
 
 // Writes text at index at, and returns the index after it; where it does not fit, nothing is written.
+#[tactic(auto, using(crate::proofs::WritingLaws::wrote_none, crate::proofs::WritingLaws::copied))]
 pub fn put_bytes(out: &mut [u8], at: usize, text: &[u8]) -> usize
     ensures { WroteIf out.old at text.now out.new result }
 {
-    if out.len() < at {
-        return at;
+    match at.checked_add(text.len()) {
+        Some(end) if end <= out.len() => {
+            out[at..end].copy_from_slice(text);
+            end
+        }
+        _ => at,
     }
-    if out.len() - at < text.len() {
-        return at;
-    }
-    let mut j = 0;
-    while j < text.len() {
-        out[at + j] = text[j];
-        j += 1;
-    }
-    at + j
 }
