@@ -1,23 +1,13 @@
--- What rule 8 gives of the numbers of the search, and all that the call promises.
+-- What rule 8 gives of the numbers of the search.
 use Prim.Native.Nat.{ℕ}
-use mathlib.Core.Path.{◌≡◌, refl, sym, ◌∙◌, ap}
-use mathlib.Core.List.{[], ◌∷◌}
-use native.Mathlib.Omega.{arith}
-use lib.ListN.{length}
-use Rattle.site.specs.Refusal.{and_then, values_if}
+use mathlib.Core.Path.{◌≡◌}
+use Rattle.site.specs.Refusal.{and_then}
 use Rattle.site.specs.Ranges.{ceiling_range, percolation_range, gibbsite_range}
 use Rattle.site.specs.Values.{between}
-use Rattle.site.specs.declared.Rule.{Rule}
 use Rattle.site.specs.declared.Checked.TheVariants.{Passed}
 use Rattle.site.proofs.Passing.{both_passed, between_passed}
-use Rattle.site.proofs.ByCheckLaws.{given_by_lem, values_by}
-use Rattle.loads.specs.declared.Searched.{Searched}
-use Rattle.loads.specs.declared.LevelAnswer.{LevelAnswer}
-use Rattle.loads.specs.declared.LevelAnswer.TheVariants.{Given, Refused}
-use Rattle.loads.specs.LoadsConditions.{Levels}
-use Rattle.loads.specs.Hydrogen.{level_of}
-use Rattle.loads.specs.Search.{compared_of, searched_of, searched_numbers, FewCompared, level_rule, level_answer, level_values}
-use Rattle.loads.proofs.SearchLaws.{few_compared}
+use Rattle.loads.specs.Hydrogen.{Levels}
+use Rattle.loads.specs.Search.{level_rule}
 
 pub level_passed : (q k ceiling : ℕ) → level_rule q k ceiling ≡ Passed → Levels q k ceiling
 unfolding level_rule
@@ -29,28 +19,3 @@ level_passed q k ceiling e =
       gibbsite = (between_passed gibbsite_range k second.0).1;
       level = (between_passed ceiling_range ceiling second.1).1;
     }
-
-pub apart : (f : Searched) (r : Rule) → Given f ≡ Refused r → ⊥
-apart f r e = let z : ◌≡◌ {A = ℕ} 0 1 = cc in omega arith
-
-module _ (q k limit ceiling : ℕ) where
-  few : (f : Searched) → level_answer q k limit ceiling ≡ Given f → FewCompared q k limit ceiling f.compared
-  unfolding level_answer searched_of
-  few f e =
-      let g = given_by_lem Given Refused apart (λ x y e. cc) (level_rule q k ceiling) (searched_of q k limit ceiling) f e in
-      rw g.1 (few_compared q k limit ceiling (level_passed q k ceiling g.0))
-
-  -- all that the search promises, from its equation
-  pub level_promise :
-      (r : LevelAnswer) → r ≡ level_answer q k limit ceiling
-      → (r ≡ level_answer q k limit ceiling)
-      × ((level_values r ≡ values_if (level_rule q k ceiling) (level_of q k limit ceiling ∷ length (compared_of q k limit ceiling) ∷ []))
-      × ((f : Searched) → r ≡ Given f → FewCompared q k limit ceiling f.compared))
-  unfolding level_answer level_values searched_numbers searched_of
-  level_promise r is = (
-    is,
-    (
-      ap level_values is ∙ values_by Given Refused level_values searched_numbers (λ f. refl) (λ r. refl) (level_rule q k ceiling) (searched_of q k limit ceiling),
-      λ f e. few f (sym is ∙ e),
-    ),
-  )

@@ -16,7 +16,7 @@ use Rattle.loads.proofs.Numbers.{prod, quotient_le}
 use Rattle.loads.proofs.Tables.{nitrogen_content_le}
 use Rattle.loads.proofs.DenitrifiedLaws.{undenitrified_least}
 use Rattle.loads.proofs.UptakeLaws.{sum_none, sum_more}
-use Rattle.loads.proofs.SiteTermLaws.{term_bounds, leaching_is, cl_min_n-plain}
+use Rattle.loads.proofs.SiteTermLaws.{term_bounds, leaching_is, cl_min_n_plain}
 use Rattle.loads.proofs.TermLaws.{cl_max_s-le}
 
 pub record LoadBounds (t : Terms) : Type 0 where
@@ -45,7 +45,7 @@ module _ (s : Site) (b : Bounds s) where
       omega (arith, leaching_is s, p)
 
   cl_min_n-le : cl_min_n (terms_of s) ≤ most_min_n
-  cl_min_n-le = omega (arith, cl_min_n-plain s, sum_le s.stand s.entries b.stand.each, b.stand.count, b.immobilisation)
+  cl_min_n-le = omega (arith, cl_min_n_plain s, sum_le s.stand s.entries b.stand.each, b.stand.count, b.immobilisation)
 
   pub load_bounds : LoadBounds (terms_of s)
   unfolding cl_max_n cl_nut_n

@@ -1,8 +1,11 @@
 -- Laws of products, quotients and choices.
 use Prim.Native.Nat.{ℕ, suc, ◌+◌, ◌*◌, ◌-◌, ◌/◌, ◌≤◌, ◌<◌}
+use mathlib.Core.Path.{◌≡◌, sym}
 use mathlib.Core.Bool.{Bool, true, false}
 use native.Mathlib.Omega.{arith}
-use native.Mathlib.Nat.{mul_comm, mul-le-mul, mul-le-mul_left, mul-le-mul_right, le_trans, le-div_iff_mul-le, div-mul-le_self, div-le_of_le-mul, div-lt_iff_lt-mul}
+use native.Mathlib.Nat.{mul_comm, mul-le-mul, mul-le-mul_left, mul-le-mul_right, le_trans, le-div_iff_mul-le, div-mul-le_self, div-le_of_le-mul, div-lt_iff_lt-mul, div-eq_of_lt-le, add-mul, one-mul}
+use Rattle.std.specs.Int.{div_ceil}
+use Rattle.std.proofs.lemmas.Grind.{div_ceil_times}
 use Rattle.site.specs.Choice.{pick}
 use Rattle.loads.specs.Rounding.{up}
 
@@ -32,6 +35,14 @@ unfolding up
 up_enough x d p =
     let z : x + (d - 1) < suc (up x d) * d = (div-lt_iff_lt-mul p).0 (omega arith) in
     omega arith
+
+-- it is what `div_ceil` gives
+pub up_is : (x d : ℕ) → 0 < d → div_ceil x d ≡ up x d
+unfolding up
+up_is x d p =
+    let t = div_ceil_times x d p in
+    let next : (div_ceil x d + 1) * d ≡ div_ceil x d * d + d = rw (add-mul, one-mul) in
+    sym (div-eq_of_lt-le d (omega (arith, t.1)) (omega (arith, t.0, next)))
 
 -- a choice of two bounded numbers
 pub pick-le : {x y k : ℕ} (b : Bool) → x ≤ k → y ≤ k → pick b x y ≤ k

@@ -7,11 +7,11 @@ use mathlib.Core.List.{List, [], ◌∷◌}
 use native.Mathlib.Omega.{arith}
 use native.Mathlib.Nat.{two-pow-succ}
 use lib.ListN.{length}
-use borrow.Author.Tests.{le-leb, lt-leb}
+use borrow.Author.Tests.{le-leb, lt-leb, leb-false}
 use Rattle.site.specs.Choice.{pick}
 use Rattle.site.proofs.Tests.{le_or_lt}
 use Rattle.loads.specs.Hydrogen.{al_of, within_limit, level_of}
-use Rattle.loads.specs.LoadsConditions.{Levels}
+use Rattle.loads.specs.Hydrogen.{Levels}
 use Rattle.loads.specs.Search.{means_in, means, compared_of, searched_of, FewCompared}
 use Rattle.loads.proofs.LevelLaws.{al_of-zero, al_of-one, level_is}
 
@@ -103,14 +103,14 @@ module _ (allowed : ℕ → Bool) where
 
 module _ (q k limit ceiling : ℕ) where
   -- the ceiling alone, where it is allowed
-  compared_ceiling : al_of q k ceiling ≤ limit → compared_of q k limit ceiling ≡ ceiling ∷ []
+  compared_ceiling : within_limit q k limit ceiling ≡ true → compared_of q k limit ceiling ≡ ceiling ∷ []
   unfolding compared_of
-  compared_ceiling h = rw (le-leb (al_of q k ceiling) limit h)
+  compared_ceiling e = rw e
 
   -- else the means between 0 and the ceiling behind it
-  compared_below : limit < al_of q k ceiling → compared_of q k limit ceiling ≡ ceiling ∷ means (within_limit q k limit) 0 ceiling
+  compared_below : within_limit q k limit ceiling ≡ false → compared_of q k limit ceiling ≡ ceiling ∷ means (within_limit q k limit) 0 ceiling
   unfolding compared_of
-  compared_below h = rw (lt-leb (al_of q k ceiling) limit h)
+  compared_below e = rw e
 
   -- levels 0 and 1 bring no aluminium, so a ceiling that is not allowed is at least 2
   above_one : Levels q k ceiling → limit < al_of q k ceiling → 1 < ceiling
@@ -126,9 +126,9 @@ module _ (q k limit ceiling : ℕ) where
   pub few_compared : Levels q k ceiling → FewCompared q k limit ceiling (length (compared_of q k limit ceiling))
   few_compared b =
       ⊎_elim
-      (λ kept. rw (compared_ceiling kept) record { one = (λ e. kept, λ h. refl); most = omega arith })
+      (λ kept. rw (compared_ceiling (le-leb (al_of q k ceiling) limit kept)) record { one = (λ e. kept, λ h. refl); most = omega arith })
       (λ over.
-      rw (compared_below over)
+      rw (compared_below (lt-leb (al_of q k ceiling) limit over))
       record {
         one = (λ e. absurd (omega (arith, means_some (within_limit q k limit) 0 ceiling (above_one b over))), λ h. absurd (omega arith));
         most = omega (arith, means_few (within_limit q k limit) 0 ceiling 13 (omega (arith, b.level)));
@@ -140,41 +140,37 @@ module _ (q k limit ceiling : ℕ) where
 pub record SearchState (q k limit ceiling low high compared : ℕ) : Type 0 where
   pub order : low < high
   pub under : high ≤ ceiling
-  pub kept : al_of q k low ≤ limit
-  pub over : limit < al_of q k high
+  pub kept : within_limit q k limit low ≡ true
+  pub over : within_limit q k limit high ≡ false
   pub count : compared + length (means (within_limit q k limit) low high) ≡ length (compared_of q k limit ceiling)
 
 module _ {q k limit ceiling : ℕ} where
-  pub search_starts : Levels q k ceiling → limit < al_of q k ceiling → SearchState q k limit ceiling 0 ceiling 1
+  pub search_starts : Levels q k ceiling → within_limit q k limit ceiling ≡ false → SearchState q k limit ceiling 0 ceiling 1
   search_starts b above = record {
-    order = omega (arith, above_one q k limit ceiling b above);
+    order = omega (arith, above_one q k limit ceiling b (leb-false (al_of q k ceiling) limit above));
     under = omega arith;
-    kept = omega (arith, al_of-zero q k);
+    kept = le-leb (al_of q k 0) limit (omega (arith, al_of-zero q k));
     over = above;
     count = rw (compared_below q k limit ceiling above) (omega arith);
   }
 
   module _ {low high n : ℕ} (s : SearchState q k limit ceiling low high n) where
-    pub search_raises : low + 1 < high → al_of q k ((low + high) / 2) ≤ limit → SearchState q k limit ceiling ((low + high) / 2) high (n + 1)
-    search_raises wide h = record {
+    pub search_raises : low + 1 < high → within_limit q k limit ((low + high) / 2) ≡ true → SearchState q k limit ceiling ((low + high) / 2) high (n + 1)
+    search_raises wide e = record {
       order = omega (arith, wide);
       under = s.under;
-      kept = h;
+      kept = e;
       over = s.over;
-      count =
-          omega
-          (arith, s.count, ap length (means_raised (within_limit q k limit) low high wide (le-leb (al_of q k ((low + high) / 2)) limit h)));
+      count = omega (arith, s.count, ap length (means_raised (within_limit q k limit) low high wide e));
     }
 
-    pub search_lowers : low + 1 < high → limit < al_of q k ((low + high) / 2) → SearchState q k limit ceiling low ((low + high) / 2) (n + 1)
-    search_lowers wide h = record {
+    pub search_lowers : low + 1 < high → within_limit q k limit ((low + high) / 2) ≡ false → SearchState q k limit ceiling low ((low + high) / 2) (n + 1)
+    search_lowers wide e = record {
       order = omega (arith, wide);
       under = omega (arith, s.under, wide);
       kept = s.kept;
-      over = h;
-      count =
-          omega
-          (arith, s.count, ap length (means_lowered (within_limit q k limit) low high wide (lt-leb (al_of q k ((low + high) / 2)) limit h)));
+      over = e;
+      count = omega (arith, s.count, ap length (means_lowered (within_limit q k limit) low high wide e));
     }
 
     -- 14 levels at most, so the count is far from its type's end
@@ -189,7 +185,7 @@ module _ {q k limit ceiling : ℕ} where
         let done : n ≡ length (compared_of q k limit ceiling) = omega (arith, s.count, ap length (means_end (within_limit q k limit) low high near)) in
         rw (found, ← done)
 
-pub search_at_once : (q k limit ceiling : ℕ) → al_of q k ceiling ≤ limit → record { level = ceiling; compared = 1 } ≡ searched_of q k limit ceiling
+pub search_at_once : (q k limit ceiling : ℕ) → within_limit q k limit ceiling ≡ true → record { level = ceiling; compared = 1 } ≡ searched_of q k limit ceiling
 unfolding searched_of
-search_at_once q k limit ceiling h =
-    rw (level_is q k limit ceiling ceiling (omega arith) h (λ l. absurd (omega arith)), compared_ceiling q k limit ceiling h)
+search_at_once q k limit ceiling e =
+    rw (level_is q k limit ceiling ceiling (omega arith) e (λ l. absurd (omega arith)), compared_ceiling q k limit ceiling e)

@@ -57,20 +57,18 @@ module _ (s : Site) where
   leaching_is = refl
 
   -- CLmaxS and CLminN by plain numbers
-  pub cl_max_s-plain :
+  pub cl_max_s_plain :
       let h = level_of s.percolation s.gibbsite (terms_of s).A s.ceiling in
       cl_max_s (terms_of s) ≡ (terms_of s).supply + (hydrogen_of s.percolation h + al_of s.percolation s.gibbsite h)
   unfolding terms_of cl_max_s critical_leaching hydrogen aluminium greatest_level
-  cl_max_s-plain = refl
+  cl_max_s_plain = refl
 
-  pub cl_min_n-plain : cl_min_n (terms_of s) ≡ stand_sum nitrogen_in s.stand s.entries / uptake_divisor + s.immobilisation
+  pub cl_min_n_plain : cl_min_n (terms_of s) ≡ stand_sum nitrogen_in s.stand s.entries / uptake_divisor + s.immobilisation
   unfolding terms_of cl_min_n nitrogen_uptake
-  cl_min_n-plain = refl
+  cl_min_n_plain = refl
 
 -- the parts behind the base supply and the aluminium limit
 pub record PartBounds (s : Site) : Type 0 where
-  pub weathering-le : weathering s ≤ most_weathering
-  pub available_part : available_weathering s ≤ weathering s
   pub available_le : available_weathering s ≤ most_available
   -- B + w − Bu and B + W − Bu are not cut off
   pub uptake_part : base_uptake s ≤ s.base_deposition + available_weathering s
@@ -92,8 +90,6 @@ module _ (s : Site) (b : Bounds s) where
   part_bounds =
       let p : weathering s * s.available ≤ most_weathering * available_range.most = mul-le-mul weathered b.available in
       record {
-        weathering-le = weathered;
-        available_part = available_within;
         available_le = omega (arith, available_is s);
         uptake_part = omega (arith, uptake_min s);
         supply_part = omega (arith, uptake_min s, available_within);

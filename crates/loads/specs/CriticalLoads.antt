@@ -2,14 +2,13 @@
 -- negative, as document 01 wants. No other is at a site that passes the check: `PartBounds` in `proofs/SiteTermLaws.antt`, for the place of a
 -- texture class `texture_between` in `proofs/TextureLaws.antt`, for class k the rules of its table in `proofs/Tables.antt`, for d `denitrified-le`
 -- in `proofs/DenitrifiedLaws.antt`.
-use Rattle.std.specs.Prelude.{ℕ, ◌+◌, ◌*◌, ◌/◌, List, [], ◌∷◌}
+use Rattle.std.specs.Prelude.{ℕ, ◌+◌, ◌*◌, ◌/◌, List, [], ◌∷◌, Result, Ok, Err}
 use Rattle.site.specs.declared.Site.{Site}
+use Rattle.site.specs.declared.Rule.{Rule}
 use Rattle.site.specs.Refusal.{refusal_values}
 use Rattle.site.specs.Check.{site_rule}
 use Rattle.site.specs.ByCheck.{answer_if}
 use Rattle.loads.specs.declared.Loads.{Loads}
-use Rattle.loads.specs.declared.LoadsAnswer.{LoadsAnswer}
-use Rattle.loads.specs.declared.LoadsAnswer.TheVariants.{Given, Refused}
 use Rattle.loads.specs.Terms.{Terms}
 use Rattle.loads.specs.SiteTerms.{terms_of}
 use Rattle.loads.specs.Hydrogen.{critical_leaching}
@@ -37,10 +36,10 @@ loads_of t = record { max_s = cl_max_s t; min_n = cl_min_n t; max_n = cl_max_n t
 unfoldable pub load_numbers : Loads → List ℕ
 load_numbers l = l.max_s ∷ l.min_n ∷ l.max_n ∷ l.nut_n ∷ []
 
-unfoldable pub loads_answer : Site → LoadsAnswer
-loads_answer s = answer_if Given Refused (site_rule s) (loads_of (terms_of s))
+unfoldable pub loads_answer : Site → Result Loads Rule
+loads_answer s = answer_if Ok Err (site_rule s) (loads_of (terms_of s))
 
 -- the values of each case: the loads, or the refusal's number and offset
-unfoldable pub loads_values : LoadsAnswer → List ℕ
-loads_values (Given l) = load_numbers l
-loads_values (Refused r) = refusal_values r
+unfoldable pub loads_values : Result Loads Rule → List ℕ
+loads_values (Ok l) = load_numbers l
+loads_values (Err r) = refusal_values r

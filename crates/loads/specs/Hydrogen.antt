@@ -1,7 +1,14 @@
 -- The hydrogen level: whole tenths of meq per cubic metre.
-use Rattle.std.specs.Prelude.{ℕ, zero, suc, ◌+◌, ◌*◌, ◌/◌, ◌^◌, Bool, leb}
+use Rattle.std.specs.Prelude.{ℕ, zero, suc, ◌+◌, ◌*◌, ◌/◌, ◌^◌, ◌≤◌, Bool, leb}
 use Rattle.site.specs.Choice.{pick}
+use Rattle.site.specs.Ranges.{percolation_range, gibbsite_range, ceiling_range}
 use Rattle.loads.specs.Terms.{Terms}
+
+-- percolation, gibbsite constant and a hydrogen ceiling keep to their ranges
+pub record Levels (q k ceiling : ℕ) : Type 0 where
+  pub percolation : q ≤ percolation_range.most
+  pub gibbsite : k ≤ gibbsite_range.most
+  pub level : ceiling ≤ ceiling_range.most
 
 -- hydrogen that percolation q leaches at the level h
 unfoldable pub hydrogen_of : (q h : ℕ) → ℕ

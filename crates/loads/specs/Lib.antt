@@ -11,4 +11,3 @@ pub mod Limits
 pub mod Hydrogen
 pub mod Search
 pub mod CriticalLoads
-pub mod LoadsConditions

@@ -1,14 +1,13 @@
 -- The search for the greatest allowed level: the levels that it compares with the aluminium limit, in their order, and what it gives.
-use Rattle.std.specs.Prelude.{ℕ, zero, suc, ◌+◌, ◌-◌, ◌/◌, ◌≤◌, Bool, ◌↔◌, ◌≡◌, List, [], ◌∷◌, leb, length}
+use Rattle.std.specs.Prelude.{ℕ, zero, suc, ◌+◌, ◌-◌, ◌/◌, ◌≤◌, Bool, ◌↔◌, ◌≡◌, List, [], ◌∷◌, leb, length, Result, Ok, Err}
 use Rattle.site.specs.Choice.{pick}
 use Rattle.site.specs.Refusal.{and_then, refusal_values}
 use Rattle.site.specs.ByCheck.{answer_if}
 use Rattle.site.specs.Ranges.{percolation_range, gibbsite_range, ceiling_range}
 use Rattle.site.specs.Values.{between}
+use Rattle.site.specs.declared.Rule.{Rule}
 use Rattle.site.specs.declared.Checked.{Checked}
 use Rattle.loads.specs.declared.Searched.{Searched}
-use Rattle.loads.specs.declared.LevelAnswer.{LevelAnswer}
-use Rattle.loads.specs.declared.LevelAnswer.TheVariants.{Given, Refused}
 use Rattle.loads.specs.Terms.{Terms}
 use Rattle.loads.specs.Hydrogen.{al_of, within_limit, level_of, greatest_level}
 
@@ -44,17 +43,17 @@ pub record FewCompared (q k limit ceiling compared : ℕ) : Type 0 where
 unfoldable pub level_rule : (q k ceiling : ℕ) → Checked
 level_rule q k ceiling = and_then (between percolation_range q) (and_then (between gibbsite_range k) (between ceiling_range ceiling))
 
-unfoldable pub level_answer : (q k limit ceiling : ℕ) → LevelAnswer
-level_answer q k limit ceiling = answer_if Given Refused (level_rule q k ceiling) (searched_of q k limit ceiling)
+unfoldable pub level_answer : (q k limit ceiling : ℕ) → Result Searched Rule
+level_answer q k limit ceiling = answer_if Ok Err (level_rule q k ceiling) (searched_of q k limit ceiling)
 
 -- the level, and how many levels were compared
 unfoldable pub searched_numbers : Searched → List ℕ
 searched_numbers f = f.level ∷ f.compared ∷ []
 
 -- the values of each case: those two numbers, or the refusal's number and offset
-unfoldable pub level_values : LevelAnswer → List ℕ
-level_values (Given f) = searched_numbers f
-level_values (Refused r) = refusal_values r
+unfoldable pub level_values : Result Searched Rule → List ℕ
+level_values (Ok f) = searched_numbers f
+level_values (Err r) = refusal_values r
 
 -- ---- with the terms of a site
 

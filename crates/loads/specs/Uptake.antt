@@ -1,5 +1,5 @@
 -- Uptake of nitrogen and of base cations.
-use Rattle.std.specs.Prelude.{ℕ, ◌+◌, ◌*◌, ◌-◌, ◌/◌, min, List, [], ◌∷◌, get_or, take}
+use Rattle.std.specs.Prelude.{ℕ, ◌+◌, ◌*◌, ◌-◌, ◌/◌, min, List, [], ◌∷◌, get_or, take, sum_by}
 use Rattle.site.specs.declared.Site.{Site}
 use Rattle.site.specs.declared.Entry.{Entry}
 use Rattle.loads.specs.Rounding.{up}
@@ -30,17 +30,13 @@ nitrogen_in species = content species 3
 unfoldable pub base_in : ℕ → ℕ
 base_in species = content species 0 + content species 1 + content species 2
 
--- share × yield × content of one entry, and the sum over entries
+-- share × yield × content of one entry
 unfoldable pub weight_of : (ℕ → ℕ) → Entry → ℕ
 weight_of content_in e = e.share * e.yield_kg * content_in e.species
 
-unfoldable pub sum_over : (Entry → ℕ) → List Entry → ℕ
-sum_over f [] = 0
-sum_over f (e ∷ es) = f e + sum_over f es
-
--- over the first n entries of a stand
+-- its sum over the first n entries of a stand
 unfoldable pub stand_sum : (ℕ → ℕ) → List Entry → ℕ → ℕ
-stand_sum content_in stand n = sum_over (weight_of content_in) (take n stand)
+stand_sum content_in stand n = sum_by (weight_of content_in) (take n stand)
 
 -- what a sum is divided by, once: 100 percent × 1000 kg per tonne × 100 hundredths
 abbrev pub uptake_divisor : ℕ

@@ -2,62 +2,78 @@
 ghost use Rattle.std.specs.Prelude.{◌≡◌, ◌+◌, ◌≤◌, [], ◌∷◌, length};
 ghost use Rattle.site.specs.Refusal.{values_if};
 ghost use Rattle.loads.specs.MostTerms.{most_hydrogen};
-ghost use Rattle.loads.specs.Hydrogen.{hydrogen_of, al_of, level_of};
+ghost use Rattle.loads.specs.Hydrogen.{hydrogen_of, al_of, within_limit, level_of};
 ghost use Rattle.loads.specs.Search.{compared_of, searched_of, FewCompared, level_rule, level_answer, level_values};
-ghost use Rattle.loads.specs.LoadsConditions.{Levels};
+ghost use Rattle.loads.specs.Hydrogen.{Levels};
 
-use crate::{LevelAnswer, Searched};
-use numbers::wide16;
-use site::{Checked, ceiling_rule, gibbsite_rule, percolation_rule};
+use crate::Searched;
+use site::{Checked, Rule, ceiling_rule, gibbsite_rule, percolation_rule};
 
-// al(h)
-#[tactic(auto, using(crate::proofs::LevelLaws::cube, crate::proofs::LevelLaws::square_le, crate::proofs::LevelLaws::cube_le, crate::proofs::LevelLaws::qk_le, crate::proofs::LevelLaws::al_le), unfolding(crate::specs::Hydrogen::al_of))]
-fn aluminium_at(q: u64, k: u64, h: u64) -> u64
-    requires { Levels q k h }
-    ensures { result ≡ al_of q k h }
-{
-    q * k * (h * h * h) / 1_000_000_000_000
+// The water that leaves the root zone, by which a hydrogen level is allowed or not: percolation, gibbsite constant, aluminium limit and hydrogen ceiling.
+#[derive(Clone, Copy)]
+pub struct SoilWater {
+    pub percolation: u64,
+    pub gibbsite: u64,
+    pub limit: u64,
+    pub ceiling: u64,
+    ghost levels: { Levels percolation gibbsite ceiling },
 }
 
-// The greatest allowed level, from the ceiling down: low is the greatest level known allowed, high the least known not.
-#[tactic(auto, using(crate::proofs::SearchLaws::search_at_once))]
-fn search(q: u64, k: u64, limit: u64, ceiling: u64) -> Searched
-    requires { Levels q k ceiling }
-    ensures { result ≡ searched_of q k limit ceiling }
-{
-    if aluminium_at(q, k, ceiling) <= limit {
-        return Searched {
-            level: ceiling,
-            compared: 1,
-        };
+impl SoilWater {
+    // al(h)
+    #[tactic(auto, using(crate::proofs::LevelLaws::cube_le, crate::proofs::LevelLaws::qk_le, crate::proofs::LevelLaws::al_le), unfolding(crate::specs::Hydrogen::al_of))]
+    fn aluminium(self, h: u64) -> u64
+        requires { h ≤ self.ceiling }
+        ensures { result ≡ al_of self.percolation self.gibbsite h }
+    {
+        self.percolation * self.gibbsite * h.pow(3) / 1_000_000_000_000
     }
-    let mut low = 0;
-    let mut high = ceiling;
-    let mut compared = 1;
-    while low + 1 < high {
-        let middle = (low + high) / 2;
-        compared += 1;
-        if aluminium_at(q, k, middle) <= limit {
-            low = middle;
-        } else {
-            high = middle;
+
+    // whether al(h) is within the limit
+    fn allows(self, h: u64) -> bool
+        requires { h ≤ self.ceiling }
+        ensures { result ≡ within_limit self.percolation self.gibbsite self.limit h }
+    {
+        self.aluminium(h) <= self.limit
+    }
+
+    // The greatest allowed level, from the ceiling down: low is the greatest level known allowed, high the least known not.
+    #[tactic(auto, using(crate::proofs::SearchLaws::search_at_once, crate::proofs::SearchLaws::search_starts))]
+    fn search(self) -> Searched
+        ensures { result ≡ searched_of self.percolation self.gibbsite self.limit self.ceiling }
+    {
+        if self.allows(self.ceiling) {
+            return Searched {
+                level: self.ceiling,
+                compared: 1,
+            };
+        }
+        let mut low = 0;
+        let mut high = self.ceiling;
+        let mut compared = 1;
+        while low + 1 < high {
+            let middle = (low + high) / 2;
+            compared += 1;
+            if self.allows(middle) {
+                low = middle;
+            } else {
+                high = middle;
+            }
+        }
+        Searched {
+            level: low,
+            compared,
         }
     }
-    Searched {
-        level: low,
-        compared,
-    }
-}
 
-// M
-#[tactic(auto, using(crate::proofs::Numbers::prod, crate::proofs::LevelLaws::level_le, crate::proofs::LevelLaws::level_allowed, crate::proofs::LevelLaws::al_of_bound), unfolding(crate::specs::Search::searched_of, crate::specs::Hydrogen::hydrogen_of))]
-pub fn critical_leaching(q: u64, k: u64, limit: u64, ceiling: u64) -> u64
-    requires { Levels q k ceiling }
-    ensures { (result ≡ hydrogen_of q (level_of q k limit ceiling) + al_of q k (level_of q k limit ceiling)) × (result ≤ most_hydrogen + limit) }
-{
-    let found = search(q, k, limit, ceiling);
-    let h = found.level;
-    q * h / 1000 + aluminium_at(q, k, h)
+    // M
+    #[tactic(auto, using(crate::proofs::Numbers::prod, crate::proofs::LevelLaws::level_le, crate::proofs::LevelLaws::level_allowed, crate::proofs::LevelLaws::al_of_bound), unfolding(crate::specs::Search::searched_of, crate::specs::Hydrogen::hydrogen_of))]
+    pub fn leaching(self) -> u64
+        ensures { (result ≡ hydrogen_of self.percolation (level_of self.percolation self.gibbsite self.limit self.ceiling) + al_of self.percolation self.gibbsite (level_of self.percolation self.gibbsite self.limit self.ceiling)) × (result ≤ most_hydrogen + self.limit) }
+    {
+        let h = self.search().level;
+        self.percolation * h / 1000 + self.aluminium(h)
+    }
 }
 
 // Rule 8 for percolation, gibbsite constant and hydrogen ceiling.
@@ -75,14 +91,22 @@ fn level_rule(q: u16, k: u16, ceiling: u16) -> Checked
 }
 
 // The greatest allowed level for percolation q, gibbsite constant k, aluminium limit and hydrogen ceiling, and how many levels were compared.
-#[tactic(auto, using(crate::proofs::LevelAnswers::level_passed), unfolding(crate::specs::Search::level_answer, site::specs::ByCheck::answer_if))]
-pub fn greatest_level(q: u16, k: u16, limit: u64, ceiling: u16) -> LevelAnswer
+#[tactic(auto, using(crate::proofs::LevelAnswers::level_passed, crate::proofs::SearchLaws::few_compared), unfolding(crate::specs::Search::level_answer, crate::specs::Search::level_values, crate::specs::Search::searched_of, crate::specs::Search::searched_numbers, site::specs::Refusal::values_if, site::specs::ByCheck::answer_if))]
+pub fn greatest_level(q: u16, k: u16, limit: u64, ceiling: u16) -> Result<Searched, Rule>
     ensures answer { result ≡ level_answer q k limit ceiling }
     ensures values { level_values result ≡ values_if (level_rule q k ceiling) (level_of q k limit ceiling ∷ length (compared_of q k limit ceiling) ∷ []) }
-    ensures count { (found : Searched) → result ≡ LevelAnswer.Given found → FewCompared q k limit ceiling found.compared }
+    ensures count { (found : Searched) → result ≡ Ok found → FewCompared q k limit ceiling found.compared }
 {
     match level_rule(q, k, ceiling) {
-        Checked::Broken(rule) => LevelAnswer::Refused(rule),
-        Checked::Passed => LevelAnswer::Given(search(wide16(q), wide16(k), limit, wide16(ceiling))),
+        Checked::Broken(rule) => Err(rule),
+        Checked::Passed => {
+            let water = SoilWater {
+                percolation: u64::from(q),
+                gibbsite: u64::from(k),
+                limit,
+                ceiling: u64::from(ceiling),
+            };
+            Ok(water.search())
+        }
     }
 }

@@ -7,47 +7,26 @@ mod hydrogen;
 mod nitrogen;
 mod texture;
 mod uptake;
+mod valid;
 mod weathering;
 
 pub use bases::aluminium_limit;
 pub use critical::critical_loads;
 pub use hydrogen::greatest_level;
 pub use nitrogen::undenitrified_at;
-use site::Rule;
-
-// The aluminium limit, or the rule that the site breaks.
-#[derive(Clone, Copy)]
-pub enum LimitAnswer {
-    Given(u64),
-    Refused(Rule),
-}
 
 // The greatest allowed hydrogen level, and how many levels were compared with the aluminium limit to find it.
-#[derive(Clone, Copy)]
+#[derive(Clone, Copy, Debug, PartialEq, Eq)]
 pub struct Searched {
     pub level: u64,
     pub compared: u64,
 }
 
-// What the search found, or the rule that is broken.
-#[derive(Clone, Copy)]
-pub enum LevelAnswer {
-    Given(Searched),
-    Refused(Rule),
-}
-
 // Whole eq per hectare and year: CLmaxS, CLminN, CLmaxN, CLnutN.
-#[derive(Clone, Copy)]
+#[derive(Clone, Copy, Debug, PartialEq, Eq)]
 pub struct Loads {
     pub max_s: u64,
     pub min_n: u64,
     pub max_n: u64,
     pub nut_n: u64,
-}
-
-// The loads, or the rule that the site breaks.
-#[derive(Clone, Copy)]
-pub enum LoadsAnswer {
-    Given(Loads),
-    Refused(Rule),
 }

@@ -12,6 +12,15 @@ pub enum Texture {
     VeryFine,
 }
 
+impl Texture {
+    // The place of a class in a row of the weathering classes.
+    pub fn place(self) -> usize
+        ensures { (result + 1 ≡ texture_number self) × (result ≤ 4) }
+    {
+        self as usize
+    }
+}
+
 #[tactic(auto, using(crate::proofs::TextureLaws::very_fine, crate::proofs::TextureLaws::fine, crate::proofs::TextureLaws::medium_fine, crate::proofs::TextureLaws::coarse, crate::proofs::TextureLaws::medium_light, crate::proofs::TextureLaws::medium_heavy))]
 pub fn texture_of(clay: u8, sand: u8) -> Texture
     ensures { texture_number result ≡ texture_of clay sand }
@@ -28,18 +37,5 @@ pub fn texture_of(clay: u8, sand: u8) -> Texture
             15..=64 => Texture::Medium,
             _ => Texture::Coarse,
         },
-    }
-}
-
-// The place of a class in a row of the weathering classes.
-pub fn texture_place(t: Texture) -> usize
-    ensures { (result + 1 ≡ texture_number t) × (result ≤ 4) }
-{
-    match t {
-        Texture::Coarse => 0,
-        Texture::Medium => 1,
-        Texture::MediumFine => 2,
-        Texture::Fine => 3,
-        Texture::VeryFine => 4,
     }
 }

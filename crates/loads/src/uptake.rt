@@ -1,11 +1,10 @@
 // What a stand takes up.
-ghost use Rattle.std.specs.Prelude.{◌≡◌, [], ◌≤◌, get_or};
+ghost use Rattle.std.specs.Prelude.{◌≡◌, [], ◌≤◌, get_or, length, sum_by};
 ghost use Rattle.site.specs.Bounds.{EntryBounds, StandBounds};
-ghost use Rattle.site.specs.Ranges.{percolation_range, most_species};
-ghost use Rattle.loads.specs.Uptake.{species_table, base_uptake_of};
-ghost use Rattle.loads.specs.LoadsConditions.{Weighed, Summed};
+ghost use Rattle.site.specs.Ranges.{most_species};
+ghost use Rattle.loads.specs.MostTerms.{most_nitrogen_weight, most_base_weight};
+ghost use Rattle.loads.specs.Uptake.{species_table, nitrogen_in, base_in, weight_of, base_uptake_of};
 
-use numbers::{wide, wide8, wide16};
 use site::Entry;
 
 // The species table: Ca, Mg, K, N in hundredths of eq per tonne.
@@ -21,66 +20,51 @@ const CONTENTS: [[u16; 4]; 9] = [
     [8483, 2470, 3330, 9995],
 ];
 
-// The contents of a species.
-fn contents_of(species: usize) -> [u16; 4]
-    requires { species ≤ most_species }
-    ensures { result ≡ get_or species_table species [] }
-{
-    CONTENTS[species]
-}
-
+// share × yield × content, for N and for Ca + Mg + K
 #[derive(Clone, Copy)]
 pub struct Sums {
     pub nitrogen: u64,
     pub base: u64,
 }
 
-// share × yield × content of one entry, for N and for Ca + Mg + K
+// of one entry
 #[tactic(auto, using(crate::proofs::Numbers::prod), unfolding(crate::specs::Uptake::weight_of, crate::specs::Uptake::nitrogen_in, crate::specs::Uptake::base_in, crate::specs::Uptake::content))]
 fn weighed(entry: Entry) -> Sums
     requires { EntryBounds entry }
-    ensures { Weighed entry result.nitrogen result.base }
+    ensures nitrogen { result.nitrogen ≡ weight_of nitrogen_in entry }
+    ensures base { result.base ≡ weight_of base_in entry }
+    ensures nitrogen_le { result.nitrogen ≤ most_nitrogen_weight }
+    ensures base_le { result.base ≤ most_base_weight }
 {
-    let contents = contents_of(wide(entry.species));
-    let yielded = wide8(entry.share) * wide16(entry.yield_kg);
-    let base = wide16(contents[0]) + wide16(contents[1]) + wide16(contents[2]);
+    let [calcium, magnesium, potassium, nitrogen] = CONTENTS[usize::from(entry.species)];
+    let yielded = u64::from(entry.share) * u64::from(entry.yield_kg);
+    let base = u64::from(calcium) + u64::from(magnesium) + u64::from(potassium);
     Sums {
-        nitrogen: yielded * wide16(contents[3]),
+        nitrogen: yielded * u64::from(nitrogen),
         base: yielded * base,
     }
 }
 
-// the same over the entries
-#[tactic(auto, using(crate::proofs::UptakeLaws::sum_none))]
-pub fn stand_sums(stand: [Entry; 4], entries: usize) -> Sums
-    requires { StandBounds stand entries }
-    ensures { Summed stand entries result.nitrogen result.base }
+// summed over entries
+pub fn stand_sums(entries: &[Entry]) -> Sums
+    requires { StandBounds entries.now (length entries.now) }
+    ensures nitrogen { result.nitrogen ≡ sum_by (weight_of nitrogen_in) entries.now }
+    ensures base { result.base ≡ sum_by (weight_of base_in) entries.now }
 {
-    let mut nitrogen: u64 = 0;
-    let mut base: u64 = 0;
-    let mut i: usize = 0;
-    while i < entries {
-        let sums = weighed(stand[i]);
+    let mut nitrogen = 0;
+    let mut base = 0;
+    for entry in entries {
+        let sums = weighed(*entry);
         nitrogen += sums.nitrogen;
         base += sums.base;
-        i += 1;
     }
     Sums { nitrogen, base }
 }
 
 // Bu: bases is B + w
-#[tactic(auto, unfolding(crate::specs::Rounding::up, crate::specs::Uptake::base_uptake_of))]
+#[tactic(auto, using(crate::proofs::Numbers::up_is), unfolding(crate::specs::Uptake::base_uptake_of))]
 pub fn base_uptake(demand: u64, bases: u64, q: u64) -> u64
-    requires { q ≤ percolation_range.most }
     ensures { (result ≡ base_uptake_of demand bases q) × (result ≤ bases) }
 {
-    let least = (q + 9) / 10;
-    if bases <= least {
-        return 0;
-    }
-    let spare = bases - least;
-    if demand <= spare {
-        return demand;
-    }
-    spare
+    demand.min(bases.saturating_sub(q.div_ceil(10)))
 }

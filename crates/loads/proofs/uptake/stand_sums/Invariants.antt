@@ -1,11 +1,15 @@
-use Prim.Native.Nat.{◌*◌, ◌-◌, ◌≤◌}
+use Prim.Native.Nat.{◌*◌, ◌≤◌}
 use mathlib.Core.Path.{◌≡◌}
+use lib.ListN.{take}
+use Rattle.std.specs.List.{sum_by}
 use Rattle.loads.specs.MostTerms.{most_nitrogen_weight, most_base_weight}
-use Rattle.loads.specs.Uptake.{nitrogen_in, base_in, stand_sum}
+use Rattle.loads.specs.Uptake.{nitrogen_in, base_in, weight_of}
 use Rattle.loads.proofs.uptake.stand_sums.Given as goal
 
-abbrev pub invariant-loop-i : goal.invariant-loop-i
-invariant-loop-i l = (l.i ≤ l.entries) × (l.nitrogen ≡ stand_sum nitrogen_in l.stand l.i) × (l.base ≡ stand_sum base_in l.stand l.i) × (l.nitrogen ≤ most_nitrogen_weight * l.i) × (l.base ≤ most_base_weight * l.i)
-
-abbrev pub decreases-loop-i : goal.decreases-loop-i
-decreases-loop-i l = l.entries - l.i
+abbrev pub invariant-loop-entry : goal.invariant-loop-entry
+invariant-loop-entry l = record {
+  nitrogen : l.nitrogen ≡ sum_by (weight_of nitrogen_in) (take l.entry-index l.entries);
+  base : l.base ≡ sum_by (weight_of base_in) (take l.entry-index l.entries);
+  nitrogen_le : l.nitrogen ≤ most_nitrogen_weight * l.entry-index;
+  base_le : l.base ≤ most_base_weight * l.entry-index;
+}
