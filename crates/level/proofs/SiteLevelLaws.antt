@@ -8,7 +8,7 @@ use Rattle.site.specs.Values.{value_rule}
 use Rattle.site.specs.ByCheck.{answer_if}
 use Rattle.site.specs.declared.Site.{Site}
 use Rattle.site.specs.declared.Rule.{Rule}
-use Rattle.site.specs.declared.Checked.TheVariants.{Passed, Broken}
+use Rattle.std.specs.Prelude.{Ok, Err}
 use Rattle.site.proofs.FieldLaws.{site_passed}
 use Rattle.site.proofs.ByCheckLaws.{given_by_lem, refused_by, values_by}
 use Rattle.loads.specs.declared.Searched.{Searched}
@@ -23,24 +23,24 @@ use Rattle.level.specs.SiteLevel.{site_level}
 
 module _ (s : Site) where
   -- rule 8 for percolation, gibbsite constant and ceiling is a part of the site's check
-  search_passed : site_rule s ≡ Passed → level_rule s.percolation s.gibbsite s.ceiling ≡ Passed
+  search_passed : site_rule s ≡ Ok tt → level_rule s.percolation s.gibbsite s.ceiling ≡ Ok tt
   unfolding level_rule and_then value_rule
   search_passed e = rw ((site_passed s e 5 (omega arith)).1, (site_passed s e 11 (omega arith)).1) (site_passed s e 12 (omega arith)).1
 
-  pub search_at : site_rule s ≡ Passed → level_answer s.percolation s.gibbsite (terms_of s).A s.ceiling ≡ site_level s
+  pub search_at : site_rule s ≡ Ok tt → level_answer s.percolation s.gibbsite (terms_of s).A s.ceiling ≡ site_level s
   unfolding level_answer site_level answer_if searched_at terms_of
   search_at e = rw (e, search_passed e)
 
-  pub level_given : (f : Searched) → site_level s ≡ Given f → (site_rule s ≡ Passed) × (f ≡ searched_at (terms_of s))
+  pub level_given : (f : Searched) → site_level s ≡ Given f → (site_rule s ≡ Ok tt) × (f ≡ searched_at (terms_of s))
   unfolding site_level
   level_given = given_by_lem Given Refused apart (λ x y e. cc) (site_rule s) (searched_at (terms_of s))
 
-  pub level_refused : (r : Rule) → site_level s ≡ Refused r → site_rule s ≡ Broken r
+  pub level_refused : (r : Rule) → site_level s ≡ Refused r → site_rule s ≡ Err r
   unfolding site_level
   level_refused = refused_by Given Refused apart (λ r k e. cc) (site_rule s) (searched_at (terms_of s))
 
   -- how many levels are compared at a site that passes
-  pub few_at : site_rule s ≡ Passed → FewAt (terms_of s) (length (levels_compared (terms_of s)))
+  pub few_at : site_rule s ≡ Ok tt → FewAt (terms_of s) (length (levels_compared (terms_of s)))
   unfolding levels_compared terms_of
   few_at e = few_compared s.percolation s.gibbsite (terms_of s).A s.ceiling (level_passed s.percolation s.gibbsite s.ceiling (search_passed e))
 

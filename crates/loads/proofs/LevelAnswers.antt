@@ -4,12 +4,12 @@ use mathlib.Core.Path.{◌≡◌}
 use Rattle.site.specs.Refusal.{and_then}
 use Rattle.site.specs.Ranges.{ceiling_range, percolation_range, gibbsite_range}
 use Rattle.site.specs.Values.{between}
-use Rattle.site.specs.declared.Checked.TheVariants.{Passed}
+use Rattle.std.specs.Prelude.{Ok}
 use Rattle.site.proofs.Passing.{both_passed, between_passed}
 use Rattle.loads.specs.Hydrogen.{Levels}
 use Rattle.loads.specs.Search.{level_rule}
 
-pub level_passed : (q k ceiling : ℕ) → level_rule q k ceiling ≡ Passed → Levels q k ceiling
+pub level_passed : (q k ceiling : ℕ) → level_rule q k ceiling ≡ Ok tt → Levels q k ceiling
 unfolding level_rule
 level_passed q k ceiling e =
     let first = both_passed (between percolation_range q) (and_then (between gibbsite_range k) (between ceiling_range ceiling)) e in

@@ -5,16 +5,15 @@ use Rattle.std.specs.Prelude.{Ok, Err}
 use Rattle.site.specs.Check.{site_rule}
 use Rattle.site.specs.declared.Site.{Site}
 use Rattle.site.specs.declared.Rule.{Rule}
-use Rattle.site.specs.declared.Checked.TheVariants.{Passed, Broken}
 use Rattle.site.proofs.ByCheckLaws.{given_by_lem, refused_by}
 use Rattle.loads.specs.SiteTerms.{terms_of}
 use Rattle.loads.specs.Limits.{limit_answer}
 
 module _ (s : Site) where
-  pub limit_given : (a : ℕ) → limit_answer s ≡ Ok a → (site_rule s ≡ Passed) × (a ≡ (terms_of s).A)
+  pub limit_given : (a : ℕ) → limit_answer s ≡ Ok a → (site_rule s ≡ Ok tt) × (a ≡ (terms_of s).A)
   unfolding limit_answer
   limit_given = given_by_lem Ok Err (λ a r e. cc) (λ a k e. cc) (site_rule s) (terms_of s).A
 
-  pub limit_refused : (r : Rule) → limit_answer s ≡ Err r → site_rule s ≡ Broken r
+  pub limit_refused : (r : Rule) → limit_answer s ≡ Err r → site_rule s ≡ Err r
   unfolding limit_answer
   limit_refused = refused_by Ok Err (λ a r e. cc) (λ r k e. cc) (site_rule s) (terms_of s).A

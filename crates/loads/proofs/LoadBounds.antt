@@ -45,7 +45,7 @@ module _ (s : Site) (b : Bounds s) where
       omega (arith, leaching_is s, p)
 
   cl_min_n-le : cl_min_n (terms_of s) ≤ most_min_n
-  cl_min_n-le = omega (arith, cl_min_n_plain s, sum_le s.stand s.entries b.stand.each, b.stand.count, b.immobilisation)
+  cl_min_n-le = omega (arith, cl_min_n_plain s, sum_le s.stand.entries s.stand.count b.stand.each, b.stand.count, b.immobilisation)
 
   pub load_bounds : LoadBounds (terms_of s)
   unfolding cl_max_n cl_nut_n

@@ -4,17 +4,16 @@ use Rattle.std.specs.Prelude.{Ok, Err}
 use Rattle.site.specs.Check.{site_rule}
 use Rattle.site.specs.declared.Site.{Site}
 use Rattle.site.specs.declared.Rule.{Rule}
-use Rattle.site.specs.declared.Checked.TheVariants.{Passed, Broken}
 use Rattle.site.proofs.ByCheckLaws.{given_by_lem, refused_by}
 use Rattle.loads.specs.declared.Loads.{Loads}
 use Rattle.loads.specs.SiteTerms.{terms_of}
 use Rattle.loads.specs.CriticalLoads.{loads_of, loads_answer}
 
 module _ (s : Site) where
-  pub loads_given : (l : Loads) → loads_answer s ≡ Ok l → (site_rule s ≡ Passed) × (l ≡ loads_of (terms_of s))
+  pub loads_given : (l : Loads) → loads_answer s ≡ Ok l → (site_rule s ≡ Ok tt) × (l ≡ loads_of (terms_of s))
   unfolding loads_answer
   loads_given = given_by_lem Ok Err (λ l r e. cc) (λ l k e. cc) (site_rule s) (loads_of (terms_of s))
 
-  pub loads_refused : (r : Rule) → loads_answer s ≡ Err r → site_rule s ≡ Broken r
+  pub loads_refused : (r : Rule) → loads_answer s ≡ Err r → site_rule s ≡ Err r
   unfolding loads_answer
   loads_refused = refused_by Ok Err (λ l r e. cc) (λ r k e. cc) (site_rule s) (loads_of (terms_of s))

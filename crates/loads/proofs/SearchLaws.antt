@@ -10,8 +10,7 @@ use lib.ListN.{length}
 use borrow.Author.Tests.{le-leb, lt-leb, leb-false}
 use Rattle.site.specs.Choice.{pick}
 use Rattle.site.proofs.Tests.{le_or_lt}
-use Rattle.loads.specs.Hydrogen.{al_of, within_limit, level_of}
-use Rattle.loads.specs.Hydrogen.{Levels}
+use Rattle.loads.specs.Hydrogen.{al_of, within_limit, level_of, Levels}
 use Rattle.loads.specs.Search.{means_in, means, compared_of, searched_of, FewCompared}
 use Rattle.loads.proofs.LevelLaws.{al_of-zero, al_of-one, level_is}
 

@@ -32,7 +32,7 @@ module _ (s : Site) where
   unfolding available_weathering
   available_is = refl
 
-  pub demand_is : base_demand s ≡ (stand_sum base_in s.stand s.entries + (uptake_divisor - 1)) / uptake_divisor
+  pub demand_is : base_demand s ≡ (stand_sum base_in s.stand.entries s.stand.count + (uptake_divisor - 1)) / uptake_divisor
   unfolding base_demand up
   demand_is = refl
 
@@ -63,7 +63,7 @@ module _ (s : Site) where
   unfolding terms_of cl_max_s critical_leaching hydrogen aluminium greatest_level
   cl_max_s_plain = refl
 
-  pub cl_min_n_plain : cl_min_n (terms_of s) ≡ stand_sum nitrogen_in s.stand s.entries / uptake_divisor + s.immobilisation
+  pub cl_min_n_plain : cl_min_n (terms_of s) ≡ stand_sum nitrogen_in s.stand.entries s.stand.count / uptake_divisor + s.immobilisation
   unfolding terms_of cl_min_n nitrogen_uptake
   cl_min_n_plain = refl
 

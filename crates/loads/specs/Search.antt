@@ -1,12 +1,11 @@
 -- The search for the greatest allowed level: the levels that it compares with the aluminium limit, in their order, and what it gives.
 use Rattle.std.specs.Prelude.{ℕ, zero, suc, ◌+◌, ◌-◌, ◌/◌, ◌≤◌, Bool, ◌↔◌, ◌≡◌, List, [], ◌∷◌, leb, length, Result, Ok, Err}
 use Rattle.site.specs.Choice.{pick}
-use Rattle.site.specs.Refusal.{and_then, refusal_values}
+use Rattle.site.specs.Refusal.{and_then, refusal_values, Checked}
 use Rattle.site.specs.ByCheck.{answer_if}
 use Rattle.site.specs.Ranges.{percolation_range, gibbsite_range, ceiling_range}
 use Rattle.site.specs.Values.{between}
 use Rattle.site.specs.declared.Rule.{Rule}
-use Rattle.site.specs.declared.Checked.{Checked}
 use Rattle.loads.specs.declared.Searched.{Searched}
 use Rattle.loads.specs.Terms.{Terms}
 use Rattle.loads.specs.Hydrogen.{al_of, within_limit, level_of, greatest_level}

@@ -44,10 +44,10 @@ uptake_divisor = 10000000
 
 -- Nu
 unfoldable pub nitrogen_uptake : Site → ℕ
-nitrogen_uptake s = stand_sum nitrogen_in s.stand s.entries / uptake_divisor
+nitrogen_uptake s = stand_sum nitrogen_in s.stand.entries s.stand.count / uptake_divisor
 
 unfoldable pub base_demand : Site → ℕ
-base_demand s = up (stand_sum base_in s.stand s.entries) uptake_divisor
+base_demand s = up (stand_sum base_in s.stand.entries s.stand.count) uptake_divisor
 
 -- Bu, where bases are B + w: the demand, at most B + w − Q/10, and 0 where this is negative: the subtraction of ℕ gives 0 there
 unfoldable pub base_uptake_of : (demand bases q : ℕ) → ℕ

@@ -7,7 +7,7 @@ ghost use Rattle.loads.specs.Search.{compared_of, searched_of, FewCompared, leve
 ghost use Rattle.loads.specs.Hydrogen.{Levels};
 
 use crate::Searched;
-use site::{Checked, Rule, ceiling_rule, gibbsite_rule, percolation_rule};
+use site::{CEILING, GIBBSITE, PERCOLATION, Rule};
 
 // The water that leaves the root zone, by which a hydrogen level is allowed or not: percolation, gibbsite constant, aluminium limit and hydrogen ceiling.
 #[derive(Clone, Copy)]
@@ -78,16 +78,12 @@ impl SoilWater {
 
 // Rule 8 for percolation, gibbsite constant and hydrogen ceiling.
 #[tactic(auto, unfolding(crate::specs::Search::level_rule, site::specs::Refusal::and_then))]
-fn level_rule(q: u16, k: u16, ceiling: u16) -> Checked
+fn level_rule(q: u16, k: u16, ceiling: u16) -> Result<(), Rule>
     ensures { result ≡ level_rule q k ceiling }
 {
-    match percolation_rule(q) {
-        Checked::Broken(rule) => Checked::Broken(rule),
-        Checked::Passed => match gibbsite_rule(k) {
-            Checked::Broken(rule) => Checked::Broken(rule),
-            Checked::Passed => ceiling_rule(ceiling),
-        },
-    }
+    PERCOLATION.check(q)?;
+    GIBBSITE.check(k)?;
+    CEILING.check(ceiling)
 }
 
 // The greatest allowed level for percolation q, gibbsite constant k, aluminium limit and hydrogen ceiling, and how many levels were compared.
@@ -97,16 +93,12 @@ pub fn greatest_level(q: u16, k: u16, limit: u64, ceiling: u16) -> Result<Search
     ensures values { level_values result ≡ values_if (level_rule q k ceiling) (level_of q k limit ceiling ∷ length (compared_of q k limit ceiling) ∷ []) }
     ensures count { (found : Searched) → result ≡ Ok found → FewCompared q k limit ceiling found.compared }
 {
-    match level_rule(q, k, ceiling) {
-        Checked::Broken(rule) => Err(rule),
-        Checked::Passed => {
-            let water = SoilWater {
-                percolation: u64::from(q),
-                gibbsite: u64::from(k),
-                limit,
-                ceiling: u64::from(ceiling),
-            };
-            Ok(water.search())
-        }
-    }
+    level_rule(q, k, ceiling)?;
+    let water = SoilWater {
+        percolation: u64::from(q),
+        gibbsite: u64::from(k),
+        limit,
+        ceiling: u64::from(ceiling),
+    };
+    Ok(water.search())
 }

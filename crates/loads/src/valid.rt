@@ -1,12 +1,11 @@
 // A site that passes the check.
-ghost use Rattle.std.specs.Prelude.{◌≡◌, MatchResult};
+ghost use Rattle.std.specs.Prelude.{◌≡◌, MatchResult, Ok, Err};
 ghost use Rattle.site.specs.Bounds.{Bounds};
 ghost use Rattle.site.specs.Check.{site_rule};
-ghost use Rattle.site.specs.declared.Checked.TheVariants.{Passed, Broken};
 ghost use Rattle.loads.specs.Uptake.{nitrogen_in, base_in, stand_sum};
 
 use crate::uptake::{Sums, stand_sums};
-use site::{Checked, Rule, Site, check_site};
+use site::{Rule, Site, check_site};
 
 // A site that passes the check, with the sums over its stand.
 #[derive(Clone, Copy)]
@@ -14,23 +13,19 @@ pub struct ValidSite {
     pub site: Site,
     pub sums: Sums,
     ghost bounds: { Bounds site },
-    ghost nitrogen: { sums.nitrogen ≡ stand_sum nitrogen_in site.stand site.entries },
-    ghost base: { sums.base ≡ stand_sum base_in site.stand site.entries },
+    ghost nitrogen: { sums.nitrogen ≡ stand_sum nitrogen_in site.stand.entries site.stand.count },
+    ghost base: { sums.base ≡ stand_sum base_in site.stand.entries site.stand.count },
 }
 
 impl TryFrom<Site> for ValidSite {
     type Error = Rule;
 
-    ghost try_from_gives = { λ s r. MatchResult r (λ v. (site_rule s ≡ Passed) × (v.site ≡ s)) (λ rule. site_rule s ≡ Broken rule) };
+    ghost try_from_gives = { λ s r. MatchResult r (λ v. (site_rule s ≡ Ok tt) × (v.site ≡ s)) (λ rule. site_rule s ≡ Err rule) };
 
     #[tactic(auto, using(site::proofs::BoundsLaw::bounds, crate::proofs::UptakeLaws::entries_bounds), unfolding(crate::specs::Uptake::stand_sum))]
     fn try_from(site: Site) -> Result<ValidSite, Rule> {
-        match check_site(site) {
-            Checked::Broken(rule) => Err(rule),
-            Checked::Passed => Ok(ValidSite {
-                site,
-                sums: stand_sums(&site.stand[..usize::from(site.entries)]),
-            }),
-        }
+        check_site(site)?;
+        let sums = stand_sums(site.stand.as_slice());
+        Ok(ValidSite { site, sums })
     }
 }
