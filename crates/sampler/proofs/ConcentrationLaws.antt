@@ -2,18 +2,19 @@
 use Prim.Native.Nat.{ℕ, ◌+◌, ◌*◌, ◌%◌, ◌^◌, ◌≤◌, ◌<◌}
 use mathlib.Core.Path.{◌≡◌, refl, sym, ap, ◌∙◌, subst}
 use mathlib.Core.Logic.{◌⊎◌, inl, inr}
-use mathlib.Core.Bool.{Bool, true, false, not, ◌&&◌, ◌||◌, true≢false}
+use mathlib.Core.Bool.{Bool, true, false, ◌&&◌, ◌||◌, true≢false}
 use native.Mathlib.Nat.{mul_assoc, mul_right_comm, mul-le-mul_right, le_trans, le_of_eq, le_of_mul-le-mul_right, eq-or-lt_of_le}
 use native.Mathlib.Omega.{arith}
 use native.Mathlib.Decide.{dec_le}
 use lib.Dec.{T, leb, ltb, eqb}
 use lib.IntN.{pos}
 use lib.Pow.{pow_pos}
-use lib.Ieee.{Float, nan, inf, fin, binary32, up as up_power, down as down_power, fits, is_nan, to_bits, le}
+use lib.Ieee.{Float, nan, inf, fin, binary32, up as up_power, down as down_power, fits, to_bits, le}
 use lib.Ieee.Fits.{down_pos}
 use lib.Ieee.Scale.{finite}
 use lib.Ieee.Positive.{num, den, den_pos}
 use borrow.Author.Tests.{le-leb, lt-leb, lt-ltb, le-ltb, eq-eqb, ne_eqb, leb-true, leb-false, eqb-true}
+use Rattle.std.specs.Prelude.{Ok, Err}
 use Rattle.site.specs.Choice.{pick}
 use Rattle.site.proofs.Tests.{and_r}
 use Rattle.site.specs.declared.Rule.TheVariants.{BadConcentration}
@@ -22,38 +23,37 @@ use Rattle.loads.proofs.Numbers.{up_le, up_enough}
 use Rattle.sampler.specs.Micrograms.{most_micrograms, not_negative, measurable, concentration_of}
 use Rattle.sampler.specs.FloatBits.{exponent, units}
 use Rattle.sampler.specs.MonthRules.{micrograms}
-use Rattle.sampler.specs.declared.floats.Concentration.TheVariants.{Micrograms, Refused}
 use Rattle.sampler.proofs.QuotientLaws.{up_same}
 use Rattle.sampler.proofs.BitsLaws.{value_of_bits, units_big}
 
 -- ---- what the definition means
 
 -- the µg of a float x, whose size is num x / den x, are the least whole number that reaches 1000 × its size
-pub micrograms_least : (x : Float) (n : ℕ) → concentration_of x ≡ Micrograms n → (1000 * num x ≤ n * den x) × ((k : ℕ) → 1000 * num x ≤ k * den x → n ≤ k)
+pub micrograms_least : (x : Float) (n : ℕ) → concentration_of x ≡ Ok n → (1000 * num x ≤ n * den x) × ((k : ℕ) → 1000 * num x ≤ k * den x → n ≤ k)
 unfolding concentration_of
-micrograms_least nan n h = let z : ◌≡◌ {A = ℕ} 0 1 = cc in absurd (omega arith)
-micrograms_least (inf s) n h = let z : ◌≡◌ {A = ℕ} 0 1 = cc in absurd (omega arith)
+micrograms_least nan n h = absurd (cc)
+micrograms_least (inf s) n h = absurd (cc)
 micrograms_least (fin s m e) n h = go (measurable s (m * up_power e) (down_power e)) h
   where
-    go : (b : Bool) → pick b (Micrograms (up (1000 * (m * up_power e)) (down_power e))) (Refused BadConcentration) ≡ Micrograms n
+    go : (b : Bool) → pick b (Ok (up (1000 * (m * up_power e)) (down_power e))) (Err BadConcentration) ≡ Ok n
         → (1000 * (m * up_power e) ≤ n * down_power e) × ((k : ℕ) → 1000 * (m * up_power e) ≤ k * down_power e → n ≤ k)
     go true q =
         let w : up (1000 * (m * up_power e)) (down_power e) ≡ n = cc in (
           subst (λ (k : ℕ). 1000 * (m * up_power e) ≤ k * down_power e) w (up_enough (1000 * (m * up_power e)) (down_power e) (down_pos e)),
           λ k l. subst (λ (j : ℕ). j ≤ k) w (up_le (1000 * (m * up_power e)) (down_power e) k (down_pos e) l),
         )
-    go false q = let z : ◌≡◌ {A = ℕ} 0 1 = cc in absurd (omega arith)
+    go false q = absurd (cc)
 
 not_above : (s : Bool) (a c : ℕ) → measurable s a c ≡ true → a ≤ 1000 * c
 not_above s a c h = leb-true a (1000 * c) (and_r (not_negative s a) (leb a (1000 * c)) h)
 
-pub micrograms-le : (x : Float) → micrograms (concentration_of x) ≤ most_micrograms
+pub micrograms_le : (x : Float) → micrograms (concentration_of x) ≤ most_micrograms
 unfolding concentration_of
-micrograms-le nan = omega arith
-micrograms-le (inf s) = omega arith
-micrograms-le (fin s m e) = go (measurable s (m * up_power e) (down_power e)) refl
+micrograms_le nan = omega arith
+micrograms_le (inf s) = omega arith
+micrograms_le (fin s m e) = go (measurable s (m * up_power e) (down_power e)) refl
   where
-    go : (b : Bool) → measurable s (m * up_power e) (down_power e) ≡ b → micrograms (pick b (Micrograms (up (1000 * (m * up_power e)) (down_power e))) (Refused BadConcentration)) ≤ 1000000
+    go : (b : Bool) → measurable s (m * up_power e) (down_power e) ≡ b → micrograms (pick b (Ok (up (1000 * (m * up_power e)) (down_power e))) (Err BadConcentration)) ≤ 1000000
     go true h =
         let l = not_above s (m * up_power e) (down_power e) h in
         up_le (1000 * (m * up_power e)) (down_power e) 1000000 (down_pos e) (omega arith)
@@ -92,7 +92,7 @@ or_lt a c h = leb-false a c (sym (or_is a c) ∙ h)
 pub record Inside (x : Float) : Type 0 where
   pub is_finite : T (finite x)
   pub small : num x ≤ 1000 * den x
-  pub taken : concentration_of x ≡ Micrograms (up (1000 * num x) (den x))
+  pub taken : concentration_of x ≡ Ok (up (1000 * num x) (den x))
 
 clash : {X : Type 0} → false ≡ true → X
 clash h = absurd (true≢false (sym h))
@@ -118,7 +118,7 @@ inside (fin true m e) g h =
     let l : m * up_power e ≤ 1000 * down_power e = omega arith in
     record { is_finite = tt; small = l; taken = rw (eq-eqb (m * up_power e) 0 z, le-leb (m * up_power e) (1000 * down_power e) l) }
 
-pub below_zero : (x : Float) → le zero_f x ≡ false → concentration_of x ≡ Refused BadConcentration
+pub below_zero : (x : Float) → le zero_f x ≡ false → concentration_of x ≡ Err BadConcentration
 unfolding le concentration_of
 below_zero nan h = refl
 below_zero (inf s) h = refl
@@ -131,7 +131,7 @@ below_zero (fin true m e) h = rw (ne_eqb (m * up_power e) 0 (λ z. no z))
         let b : 0 * 1 * down_power e ≡ 0 = omega arith in
         true≢false (sym (rw (eq-eqb (0 * 1 * down_power e) (m * up_power e * 1) a, eq-eqb (0 * 1 * down_power e) 0 b)) ∙ h)
 
-pub above_most : (x : Float) → le x thousand_f ≡ false → concentration_of x ≡ Refused BadConcentration
+pub above_most : (x : Float) → le x thousand_f ≡ false → concentration_of x ≡ Err BadConcentration
 unfolding le concentration_of
 above_most nan h = refl
 above_most (inf s) h = refl
@@ -142,12 +142,6 @@ above_most (fin true m e) h =
     let p = down_pos e in
     let k = lt-ltb 0 (m * up_power e * 1 + 1000 * down_power e) (omega arith) in
     absurd (true≢false (sym (rw k) ∙ h))
-
-pub no_nan : (x : Float) → Inside x → T (not (is_nan x))
-unfolding is_nan
-no_nan nan i = i.is_finite
-no_nan (inf s) i = tt
-no_nan (fin s m e) i = tt
 
 -- ---- by the bits
 
@@ -170,7 +164,7 @@ exponent_small x f i =
         let v = units_big (exponent b) (b % 8388608) (omega arith) in
         absurd (too_big (units b) (2 ^ 149) (pow_pos 149) v u)
 
-pub taken_bits : (x : Float) → T (fits binary32 x) → Inside x → concentration_of x ≡ Micrograms (up (1000 * units (to_bits binary32 x)) (2 ^ 149))
+pub taken_bits : (x : Float) → T (fits binary32 x) → Inside x → concentration_of x ≡ Ok (up (1000 * units (to_bits binary32 x)) (2 ^ 149))
 taken_bits x f i =
-    i.taken ∙ ap Micrograms (up_same (1000 * num x) (den x) (1000 * units (to_bits binary32 x)) (2 ^ 149) (den_pos x) (pow_pos 149)
+    i.taken ∙ ap Ok (up_same (1000 * num x) (den x) (1000 * units (to_bits binary32 x)) (2 ^ 149) (den_pos x) (pow_pos 149)
     (mul_assoc 1000 (num x) (2 ^ 149) ∙ ap (λ (a : ℕ). 1000 * a) (value_of_bits x f i.is_finite) ∙ sym (mul_assoc 1000 (units (to_bits binary32 x)) (den x))))

@@ -1,8 +1,13 @@
 -- Laws of a quotient up: it is that of the fraction, however that is written.
-use Prim.Native.Nat.{ℕ, ◌+◌, ◌-◌, ◌*◌, ◌/◌, ◌≤◌, ◌<◌}
+use Prim.Native.Nat.{ℕ, ◌+◌, ◌-◌, ◌*◌, ◌/◌, ◌%◌, ◌^◌, ◌≤◌, ◌<◌, min}
 use mathlib.Core.Path.{◌≡◌, sym, ap, ◌∙◌}
 use native.Mathlib.Nat.{mul_right_comm, mul-le-mul_right, le_trans, le_of_eq, le_antisymm, le_of_mul-le-mul_right, div-eq_of_lt, add-div_right}
 use native.Mathlib.Omega.{arith}
+use native.Mathlib.Decide.{dec_le, dec_lt}
+use lib.Pow.{pow_pos, pow_mono}
+use Rattle.std.specs.Int.{div_ceil}
+use Rattle.std.proofs.lemmas.Nat.{one_shl}
+use Rattle.std.proofs.lemmas.Grind.{div_ceil_times}
 use Rattle.loads.specs.Rounding.{up}
 use Rattle.loads.proofs.Numbers.{up_le, up_enough}
 
@@ -31,3 +36,30 @@ pub up_one : (a b : ℕ) → 0 < a → a ≤ b → up a b ≡ 1
 up_one a b p h =
     let e : (a - 1) / b ≡ 0 = div-eq_of_lt (omega arith) in
     sym (up_suc a b p (omega arith)) ∙ ap (λ n. n + 1) e
+
+-- the library's quotient up
+pub up_div_ceil : (a b : ℕ) → 0 < b → div_ceil a b ≡ up a b
+up_div_ceil a b p = le_antisymm (go (dec_le (div_ceil a b) (up a b))) (up_le a b (div_ceil a b) p (div_ceil_times a b p).0)
+  where
+    go : Dec (div_ceil a b ≤ up a b) → div_ceil a b ≤ up a b
+    go (yes h) = h
+    go (no n) =
+        let l : up a b + 1 ≤ div_ceil a b = omega arith in
+        let m : (up a b + 1) * b ≤ div_ceil a b * b = mul-le-mul_right b l in
+        absurd (omega (arith, up_enough a b p, (div_ceil_times a b p).1))
+
+-- over a power of two of 64 bits: past 2 ^ 63 no quotient up changes
+pub up_power : (a s k : ℕ) → a ≤ 2 ^ 63 → k ≡ min s 63 → div_ceil a (1 * 2 ^ k % 2 ^ 64) ≡ up a (2 ^ s)
+up_power a s k h e =
+    let l : k < 64 = omega arith in
+    rw (one_shl k 64 l) (up_div_ceil a (2 ^ k) (pow_pos k) ∙ go (dec_le s 63))
+  where
+    large : 63 ≤ s → Dec (0 < a) → up a (2 ^ 63) ≡ up a (2 ^ s)
+    large l (yes p) = up_one a (2 ^ 63) p h ∙ sym (up_one a (2 ^ s) p (le_trans h (pow_mono l)))
+    large l (no n) =
+        let z : a ≡ 0 = omega arith in
+        rw z (up_zero (2 ^ 63) (pow_pos 63) ∙ sym (up_zero (2 ^ s) (pow_pos s)))
+
+    go : Dec (s ≤ 63) → up a (2 ^ k) ≡ up a (2 ^ s)
+    go (yes l) = let same : k ≡ s = omega arith in rw same
+    go (no n) = let same : k ≡ 63 = omega arith in rw same (large (omega arith) (dec_lt 0 a))

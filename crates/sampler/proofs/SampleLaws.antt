@@ -5,12 +5,13 @@ use mathlib.Core.List.{List, ◌∷◌}
 use mathlib.Core.Logic.{◌⊎◌, inl, inr}
 use lib.ListN.{length}
 use native.Mathlib.Omega.{arith}
+use Rattle.std.specs.Prelude.{Result, Ok, Err}
 use Rattle.site.specs.Check.{fields_rule, site_rule}
 use Rattle.site.specs.ByCheck.{answer_if}
 use Rattle.site.specs.Refusal.{values_if}
 use Rattle.site.specs.Values.{item_count, count_rule, value_rule}
-use Rattle.site.specs.declared.Rule.{Rule}
 use Rattle.site.specs.declared.Site.{Site}
+use Rattle.site.specs.declared.Refusal.{Refusal}
 use Rattle.site.specs.declared.Checked.{Checked}
 use Rattle.site.specs.declared.Checked.TheVariants.{Passed, Broken}
 use Rattle.loads.specs.SiteTerms.{terms_of}
@@ -25,21 +26,18 @@ use Rattle.sampler.specs.YearPair.{year_of}
 use Rattle.sampler.specs.FirstMonth.{ByMonth, ByYear}
 use Rattle.sampler.specs.SampleAnswers.{with_pair, keyed, year_answer, checked_first, sample_answer, ByKey, sample_values, year_values}
 use Rattle.sampler.specs.declared.Month.{Month}
+use Rattle.sampler.specs.declared.Pair.{Pair}
 use Rattle.sampler.specs.declared.Sampled.{Sampled}
-use Rattle.sampler.specs.declared.SampleAnswer.{SampleAnswer}
-use Rattle.sampler.specs.declared.SampleAnswer.TheVariants.{Given, Refused}
-use Rattle.sampler.specs.declared.years.Year.{Year}
-use Rattle.sampler.specs.declared.years.Year.TheVariants.{Pair, Refused as YearRefused}
 use Rattle.sampler.proofs.FirstMonthLaws.{year_refused}
 
-module _ (s : Site) (S N : ℕ) where
-  pub pair_rule : site_rule (with_pair s S N) ≡ site_rule s
+module _ (s : Site) (p : Pair) where
+  pub pair_rule : site_rule (with_pair s p) ≡ site_rule s
   unfolding with_pair site_rule fields_rule count_rule item_count value_rule
   pair_rule = refl
 
-  pub pair_terms : terms_of (with_pair s S N) ≡ terms_of s
+  pub pair_terms : terms_of (with_pair s p) ≡ terms_of s
   unfolding with_pair
-  pair_terms = terms_same (with_pair s S N) s (record {
+  pair_terms = terms_same (with_pair s p) s (record {
     parent = refl;
     clay = refl;
     sand = refl;
@@ -56,102 +54,102 @@ module _ (s : Site) (S N : ℕ) where
     leachate = refl;
   })
 
-  abbrev keyed_answer : SampleAnswer
-  keyed_answer = keyed S N (judgement_answer (with_pair s S N))
+  abbrev keyed_answer : Result Sampled Refusal
+  keyed_answer = keyed p (judgement_answer (with_pair s p))
 
   -- the judgement's own check is that of the site
   pub keyed_checked : checked_first (site_rule s) keyed_answer ≡ keyed_answer
   unfolding answer_if keyed judgement_answer
   keyed_checked = go (site_rule s) pair_rule
     where
-      go : (c : Checked) → site_rule (with_pair s S N) ≡ c → checked_first c keyed_answer ≡ keyed_answer
+      go : (c : Checked) → site_rule (with_pair s p) ≡ c → checked_first c keyed_answer ≡ keyed_answer
       go Passed e = refl
       go (Broken r) e = rw e
 
   abbrev judged_pair : Sampled
-  judged_pair = record { sulphur = S; nitrogen = N; judged = judged_of (with_pair s S N) }
+  judged_pair = record { pair = p; judged = judged_of (with_pair s p) }
 
   module _ (passed : site_rule s ≡ Passed) where
-    judged_pair_lem : judgement_answer (with_pair s S N) ≡ Judgement (judged_of (with_pair s S N))
-    judged_pair_lem = judged_passing (with_pair s S N) (pair_rule ∙ passed)
+    judged_pair_lem : judgement_answer (with_pair s p) ≡ Judgement (judged_of (with_pair s p))
+    judged_pair_lem = judged_passing (with_pair s p) (pair_rule ∙ passed)
 
-    keyed_given : keyed_answer ≡ Given judged_pair
+    keyed_given : keyed_answer ≡ Ok judged_pair
     unfolding keyed
     keyed_given = rw judged_pair_lem
 
-    keyed-values : sample_values keyed_answer ≡ S ∷ N ∷ pair_values (terms_of s) S N
+    keyed-values : sample_values keyed_answer ≡ p.sulphur ∷ p.nitrogen ∷ pair_values (terms_of s) p.sulphur p.nitrogen
     unfolding sample_values with_pair
-    keyed-values = rw keyed_given (rw (judged_values_lem (with_pair s S N), pair_terms))
+    keyed-values = rw keyed_given (rw (judged_values_lem (with_pair s p), pair_terms))
 
-    pair_tells : Tells within over (verdict_word (judged_of (with_pair s S N)).verdict) (terms_of s) S N
+    pair_tells : Tells within over (verdict_word (judged_of (with_pair s p)).verdict) (terms_of s) p.sulphur p.nitrogen
     unfolding with_pair
-    pair_tells = rw pair_terms at (judged_says (with_pair s S N) (pair_rule ∙ passed))
+    pair_tells = rw pair_terms at (judged_says (with_pair s p) (pair_rule ∙ passed))
 
-not_given : (rule : Rule) (at : ℕ) (p : Sampled) → Refused rule at ≡ Given p → ⊥
-not_given rule at p e = let z : ◌≡◌ {A = ℕ} 0 1 = cc in omega arith
+not_given : (r : Refusal) (p : Sampled) → Err r ≡ Ok p → ⊥
+not_given r p e = cc
 
 module _ (s : Site) (ms : List Month) where
   -- what an answer that is given says
-  pub sample_given : (p : Sampled) → sample_answer s ms ≡ Given p → (site_rule s ≡ Passed) × ByKey s ms p
+  pub sample_given : (p : Sampled) → sample_answer s ms ≡ Ok p → (site_rule s ≡ Passed) × ByKey s ms p
   unfolding sample_answer answer_if year_answer
   sample_given p = go (site_rule s) refl (year_of ms) refl
     where
-      go : (c : Checked) → site_rule s ≡ c → (y : Year) → year_of ms ≡ y → checked_first c (year_answer s y) ≡ Given p → (site_rule s ≡ Passed) × ByKey s ms p
-      go (Broken r) e y f q = absurd (not_given r 0 p q)
-      go Passed e (YearRefused r i) f q = absurd (not_given r i p q)
-      go Passed e (Pair S N) f q =
-          let g : Given (judged_pair s S N) ≡ Given p = sym (keyed_given s S N e) ∙ q in
-          let w : judged_pair s S N ≡ p = cc in
-          (e, subst (λ (x : Sampled). ByKey s ms x) w (record { pair = f; judgement = judged_pair_lem s S N e }))
+      go : (c : Checked) → site_rule s ≡ c → (y : Result Pair Refusal) → year_of ms ≡ y → checked_first c (year_answer s y) ≡ Ok p → (site_rule s ≡ Passed) × ByKey s ms p
+      go (Broken r) e y f q = absurd (not_given _ p q)
+      go Passed e (Err r) f q = absurd (not_given r p q)
+      go Passed e (Ok y) f q =
+          let g : Ok (judged_pair s y) ≡ Ok p = sym (keyed_given s y e) ∙ q in
+          let w : judged_pair s y ≡ p = cc in
+          (e, subst (λ (x : Sampled). ByKey s ms x) w (record { pair = f; judgement = judged_pair_lem s y e }))
 
-  says : (p : Sampled) → sample_answer s ms ≡ Given p → Tells within over (verdict_word p.judged.verdict) (terms_of s) p.sulphur p.nitrogen
+  says : (p : Sampled) → sample_answer s ms ≡ Ok p → Tells within over (verdict_word p.judged.verdict) (terms_of s) p.pair.sulphur p.pair.nitrogen
   says p e =
       let g = sample_given p e in
       let j = (judgement_given _ _ g.1.judgement).1 in
-      rw j (pair_tells s p.sulphur p.nitrogen g.0)
+      rw j (pair_tells s p.pair g.0)
 
   answer_values : sample_values (sample_answer s ms) ≡ values_if (site_rule s) (year_values (terms_of s) (year_of ms))
   unfolding sample_answer answer_if year_answer values_if year_values sample_values
   answer_values = go (site_rule s) refl (year_of ms)
     where
-      go : (c : Checked) → site_rule s ≡ c → (y : Year) → sample_values (checked_first c (year_answer s y)) ≡ values_if c (year_values (terms_of s) y)
+      go : (c : Checked) → site_rule s ≡ c → (y : Result Pair Refusal) → sample_values (checked_first c (year_answer s y)) ≡ values_if c (year_values (terms_of s) y)
       go (Broken r) e y = refl
-      go Passed e (YearRefused r i) = refl
-      go Passed e (Pair S N) = keyed-values s S N e
+      go Passed e (Err r) = refl
+      go Passed e (Ok y) = keyed-values s y e
 
   -- all that the call promises, from the equation of its answer
-  pub sample_promise : (r : SampleAnswer) → r ≡ sample_answer s ms
+  pub sample_promise : (r : Result Sampled Refusal) → r ≡ sample_answer s ms
       → (r ≡ sample_answer s ms)
       × ((sample_values r ≡ values_if (site_rule s) (year_values (terms_of s) (year_of ms)))
-      × (((p : Sampled) → r ≡ Given p → ByKey s ms p)
-      × ((p : Sampled) → r ≡ Given p → Tells within over (verdict_word p.judged.verdict) (terms_of s) p.sulphur p.nitrogen)))
+      × (((p : Sampled) → r ≡ Ok p → ByKey s ms p)
+      × ((p : Sampled) → r ≡ Ok p → Tells within over (verdict_word p.judged.verdict) (terms_of s) p.pair.sulphur p.pair.nitrogen)))
   sample_promise r is = (is, (ap sample_values is ∙ answer_values, (λ p q. (sample_given p (sym is ∙ q)).1, λ p q. says p (sym is ∙ q))))
 
 -- ---- what an answer says of the check before it, and where it is refused
 
-pub checked_given : (c : Checked) (a : SampleAnswer) (p : Sampled) → checked_first c a ≡ Given p → (c ≡ Passed) × (a ≡ Given p)
+pub checked_given : (c : Checked) (a : Result Sampled Refusal) (p : Sampled) → checked_first c a ≡ Ok p → (c ≡ Passed) × (a ≡ Ok p)
 unfolding answer_if
 checked_given Passed a p e = (refl, e)
-checked_given (Broken r) a p e = absurd (not_given r 0 p e)
+checked_given (Broken r) a p e = absurd (not_given _ p e)
 
-pub checked_at : (c : Checked) (a : SampleAnswer) {most : ℕ} → ((rule : Rule) (at : ℕ) → a ≡ Refused rule at → at ≤ most) → (rule : Rule) (at : ℕ) → checked_first c a ≡ Refused rule at → at ≤ most
+pub checked_at : (c : Checked) (a : Result Sampled Refusal) {most : ℕ} → ((r : Refusal) → a ≡ Err r → r.at ≤ most) → (r : Refusal) → checked_first c a ≡ Err r → r.at ≤ most
 unfolding answer_if
-checked_at Passed a h rule at e = h rule at e
-checked_at (Broken r) a h rule at e = let z : at ≡ 0 = cc in omega arith
+checked_at Passed a h r e = h r e
+checked_at (Broken rule) a h r e = let z : r.at ≡ 0 = cc in omega arith
 
-keyed_at : (S N : ℕ) (a : JudgementAnswer) (rule : Rule) (at : ℕ) → keyed S N a ≡ Refused rule at → at ≡ 0
+keyed_at : (p : Pair) (a : JudgementAnswer) (r : Refusal) → keyed p a ≡ Err r → r.at ≡ 0
 unfolding keyed
-keyed_at S N (Judgement j) rule at e = let z : ◌≡◌ {A = ℕ} 0 1 = cc in absurd (omega arith)
-keyed_at S N (NotJudged r) rule at e = cc
+keyed_at p (Judgement j) r e = absurd (cc)
+keyed_at p (NotJudged rule) r e = cc
 
-pub year_at : (s : Site) (ms : List Month) → length ms ≡ 12 → (rule : Rule) (at : ℕ) → year_answer s (year_of ms) ≡ Refused rule at → at ≤ 12
+pub year_at : (s : Site) (ms : List Month) → length ms ≡ 12 → (r : Refusal) → year_answer s (year_of ms) ≡ Err r → r.at ≤ 12
 unfolding year_answer
-year_at s ms l rule at = go (year_of ms) refl
+year_at s ms l r = go (year_of ms) refl
   where
-    placed : (r : Rule) (i : ℕ) → ByMonth ms r i ⊎ ByYear ms r i → i ≤ 12
-    placed r i (inl f) = let h = f.inside in omega arith
-    placed r i (inr f) = let h = f.at_12 in omega arith
+    placed : (q : Refusal) → ByMonth ms q.rule q.at ⊎ ByYear ms q.rule q.at → q.at ≤ 12
+    placed q (inl f) = let h = f.inside in omega arith
+    placed q (inr f) = let h = f.at_12 in omega arith
 
-    go : (y : Year) → year_of ms ≡ y → year_answer s y ≡ Refused rule at → at ≤ 12
-    go (Pair S N) f e = let z = keyed_at S N (judgement_answer (with_pair s S N)) rule at e in omega arith
-    go (YearRefused r i) f e = let same : i ≡ at = cc in omega (arith, placed r i (year_refused ms f))
+    go : (y : Result Pair Refusal) → year_of ms ≡ y → year_answer s y ≡ Err r → r.at ≤ 12
+    go (Ok p) f e = let z = keyed_at p (judgement_answer (with_pair s p)) r e in omega arith
+    go (Err q) f e = let same : q.at ≡ r.at = cc in omega (arith, placed q (year_refused ms f))

@@ -1,55 +1,50 @@
 -- Floats by their bits, and years: a table of each. `floats_agree` and `years_agree` in `proofs/Cases.antt` prove that the definitions give the numbers
 -- beside them.
-use Rattle.std.specs.Prelude.{ℕ, false, List, [], ◌∷◌, ◌++◌, pos, negsuc, replicate, Float}
+use Rattle.std.specs.Prelude.{ℕ, false, List, [], ◌∷◌, ◌++◌, pos, negsuc, replicate, Float, Result, Ok, Err}
 use Rattle.std.specs.Float.{nan, fin, binary32}
 use Rattle.std.specs.Float.Ieee.{of_bits}
 use Rattle.site.specs.Refusal.{rule_number}
+use Rattle.site.specs.declared.Rule.{Rule}
+use Rattle.site.specs.declared.Refusal.{Refusal}
 use Rattle.sampler.specs.declared.Reading.{Reading}
 use Rattle.sampler.specs.declared.Reading.TheVariants.{Measured, Below, Missing}
 use Rattle.sampler.specs.declared.Month.{Month}
-use Rattle.sampler.specs.declared.floats.Concentration.{Concentration}
-use Rattle.sampler.specs.declared.floats.Concentration.TheVariants.{Micrograms, Refused}
-use Rattle.sampler.specs.declared.years.Year.{Year}
-use Rattle.sampler.specs.declared.years.Year.TheVariants.{Pair, Refused as YearRefused}
+use Rattle.sampler.specs.declared.Pair.{Pair}
 
--- ---- floats
+-- ---- floats: the µg, or the number of the rule
 
-pub data Given : Type 0 where
-  taken : (micrograms : ℕ) → Given
-  refused : (number : ℕ) → Given
-
-abbrev pub given_by : Concentration → Given
-given_by (Micrograms n) = taken n
-given_by (Refused rule) = refused (rule_number rule)
+abbrev pub given_by : Result ℕ Rule → Result ℕ ℕ
+given_by (Ok n) = Ok n
+given_by (Err rule) = Err (rule_number rule)
 
 pub record FloatCase : Type 0 where
   pub bits : ℕ
-  pub given : Given
+  pub given : Result ℕ ℕ
 
 unfoldable pub floats : List FloatCase
 floats =
-    record { bits = 0x0000_0000; given = taken 0 }
-    ∷ record { bits = 0x8000_0000; given = taken 0 }  -- minus zero
-    ∷ record { bits = 0x0000_0001; given = taken 1 }  -- the least subnormal
-    ∷ record { bits = 0x007f_ffff; given = taken 1 }  -- the greatest
-    ∷ record { bits = 0x3a83_126e; given = taken 1 }  -- the float below 0.001
-    ∷ record { bits = 0x3a83_126f; given = taken 2 }  -- 0.001, which lies above one thousandth
-    ∷ record { bits = 0x3dcc_cccd; given = taken 101 }  -- 0.1
-    ∷ record { bits = 0x3f00_0000; given = taken 500 }  -- 0.5
-    ∷ record { bits = 0x447a_0000; given = taken 1000000 }  -- 1000
-    ∷ record { bits = 0x447a_0001; given = refused 12 }  -- the next above it
-    ∷ record { bits = 0x8000_0001; given = refused 12 }  -- minus the least subnormal
-    ∷ record { bits = 0x7f80_0000; given = refused 12 }  -- the infinities
-    ∷ record { bits = 0xff80_0000; given = refused 12 }
-    ∷ record { bits = 0x7f80_0001; given = refused 12 }  -- not a number
-    ∷ record { bits = 0xffff_ffff; given = refused 12 }
+    record { bits = 0x0000_0000; given = Ok 0 }
+    ∷ record { bits = 0x8000_0000; given = Ok 0 }  -- minus zero
+    ∷ record { bits = 0x0000_0001; given = Ok 1 }  -- the least subnormal
+    ∷ record { bits = 0x007f_ffff; given = Ok 1 }  -- the greatest
+    ∷ record { bits = 0x3a83_126e; given = Ok 1 }  -- the float below 0.001
+    ∷ record { bits = 0x3a83_126f; given = Ok 2 }  -- 0.001, which lies above one thousandth
+    ∷ record { bits = 0x3dcc_cccd; given = Ok 101 }  -- 0.1
+    ∷ record { bits = 0x3f00_0000; given = Ok 500 }  -- 0.5
+    ∷ record { bits = 0x447a_0000; given = Ok 1000000 }  -- 1000
+    ∷ record { bits = 0x447a_0001; given = Err 12 }  -- the next above it
+    ∷ record { bits = 0x8000_0001; given = Err 12 }  -- minus the least subnormal
+    ∷ record { bits = 0x7f80_0000; given = Err 12 }  -- the infinities
+    ∷ record { bits = 0xff80_0000; given = Err 12 }
+    ∷ record { bits = 0x7f80_0001; given = Err 12 }  -- not a number
+    ∷ record { bits = 0xffff_ffff; given = Err 12 }
     ∷ []
 
 -- ---- years: S and N, or number and offset
 
-abbrev pub year_numbers : Year → (ℕ × ℕ)
-year_numbers (Pair S N) = (S, N)
-year_numbers (YearRefused rule at) = (rule_number rule, at)
+abbrev pub year_numbers : Result Pair Refusal → (ℕ × ℕ)
+year_numbers (Ok p) = (p.sulphur, p.nitrogen)
+year_numbers (Err r) = (rule_number r.rule, r.at)
 
 -- m mg per litre, and m quarters of one
 abbrev mg : ℕ → Float

@@ -1,7 +1,8 @@
 -- A month: its rules, in order the rain, sulphate, nitrate and ammonium, and what it brings.
-use Rattle.std.specs.Prelude.{ℕ, ◌+◌, ◌*◌, leb}
+use Rattle.std.specs.Prelude.{ℕ, ◌+◌, ◌*◌, leb, Result, Ok, Err}
 use Rattle.site.specs.Refusal.{and_then}
 use Rattle.site.specs.Choice.{pick}
+use Rattle.site.specs.declared.Rule.{Rule}
 use Rattle.site.specs.declared.Rule.TheVariants.{OutOfRange, NoReading}
 use Rattle.site.specs.declared.Checked.{Checked}
 use Rattle.site.specs.declared.Checked.TheVariants.{Passed, Broken}
@@ -9,32 +10,29 @@ use Rattle.sampler.specs.Micrograms.{concentration_of}
 use Rattle.sampler.specs.declared.Reading.{Reading}
 use Rattle.sampler.specs.declared.Reading.TheVariants.{Measured, Below, Missing}
 use Rattle.sampler.specs.declared.Month.{Month}
-use Rattle.sampler.specs.declared.floats.Concentration.{Concentration}
-use Rattle.sampler.specs.declared.floats.Concentration.TheVariants.{Micrograms, Refused}
 use Rattle.sampler.specs.declared.months.Deposition.{Deposition}
-use Rattle.sampler.specs.declared.months.Deposition.TheVariants.{Brought, Refused as NotBrought}
 
 -- mm
 abbrev pub most_rain : ℕ
 most_rain = 1000
 
 -- a value below the detection limit counts as the limit; rule 13 for one that is missing
-abbrev pub reading_of : Reading → Concentration
+abbrev pub reading_of : Reading → Result ℕ Rule
 reading_of (Measured x) = concentration_of x
 reading_of (Below limit) = concentration_of limit
-reading_of Missing = Refused NoReading
+reading_of Missing = Err NoReading
 
 -- rules 12 and 13
-abbrev pub concentration_rule : Concentration → Checked
-concentration_rule (Micrograms n) = Passed
-concentration_rule (Refused rule) = Broken rule
+abbrev pub concentration_rule : Result ℕ Rule → Checked
+concentration_rule (Ok n) = Passed
+concentration_rule (Err rule) = Broken rule
 
 -- µg per litre; 0 where the reading is refused
-abbrev pub micrograms : Concentration → ℕ
-micrograms (Micrograms n) = n
-micrograms (Refused rule) = 0
+abbrev pub micrograms : Result ℕ Rule → ℕ
+micrograms (Ok n) = n
+micrograms (Err rule) = 0
 
-abbrev pub readings_rule : (sulphate nitrate ammonium : Concentration) → Checked
+abbrev pub readings_rule : (sulphate nitrate ammonium : Result ℕ Rule) → Checked
 readings_rule s n a = and_then (concentration_rule s) (and_then (concentration_rule n) (concentration_rule a))
 
 -- rule 8 for the rain, then the readings
@@ -50,9 +48,9 @@ unfoldable pub nitrogen_of : Month → ℕ
 nitrogen_of m = m.rain * (micrograms (reading_of m.nitrate) + micrograms (reading_of m.ammonium))
 
 -- what the code gives for a month
-abbrev pub deposition_by : Checked → (sulphur nitrogen : ℕ) → Deposition
-deposition_by Passed s n = Brought s n
-deposition_by (Broken rule) s n = NotBrought rule
+abbrev pub deposition_by : Checked → (sulphur nitrogen : ℕ) → Result Deposition Rule
+deposition_by Passed s n = Ok (record { sulphur = s; nitrogen = n })
+deposition_by (Broken rule) s n = Err rule
 
-abbrev pub deposition_of : Month → Deposition
+abbrev pub deposition_of : Month → Result Deposition Rule
 deposition_of m = deposition_by (month_rule m) (sulphur_of m) (nitrogen_of m)

@@ -1,9 +1,10 @@
 -- What the call answers: the site's checks come first, and the pair of the year is judged as when entered by key.
-use Rattle.std.specs.Prelude.{ℕ, ◌≡◌, List, [], ◌∷◌}
+use Rattle.std.specs.Prelude.{ℕ, ◌≡◌, List, [], ◌∷◌, Result, Ok, Err}
 use Rattle.site.specs.Check.{site_rule}
 use Rattle.site.specs.ByCheck.{answer_if}
 use Rattle.site.specs.Refusal.{rule_number}
 use Rattle.site.specs.declared.Site.{Site}
+use Rattle.site.specs.declared.Refusal.{Refusal}
 use Rattle.site.specs.declared.Checked.{Checked}
 use Rattle.loads.specs.Terms.{Terms}
 use Rattle.judgement.specs.Answers.{judgement_answer, judged_values, pair_values}
@@ -11,15 +12,12 @@ use Rattle.judgement.specs.declared.JudgementAnswer.{JudgementAnswer}
 use Rattle.judgement.specs.declared.JudgementAnswer.TheVariants.{Given as Judgement, Refused as NotJudged}
 use Rattle.sampler.specs.YearPair.{year_of}
 use Rattle.sampler.specs.declared.Month.{Month}
+use Rattle.sampler.specs.declared.Pair.{Pair}
 use Rattle.sampler.specs.declared.Sampled.{Sampled}
-use Rattle.sampler.specs.declared.SampleAnswer.{SampleAnswer}
-use Rattle.sampler.specs.declared.SampleAnswer.TheVariants.{Given, Refused}
-use Rattle.sampler.specs.declared.years.Year.{Year}
-use Rattle.sampler.specs.declared.years.Year.TheVariants.{Pair, Refused as YearRefused}
 
--- the site with the pair S, N put into its field 0F
-unfoldable pub with_pair : Site → (S N : ℕ) → Site
-with_pair s S N = record {
+-- the site with the pair put into its field 0F
+unfoldable pub with_pair : Site → Pair → Site
+with_pair s p = record {
   name = s.name;
   name_len = s.name_len;
   parent = s.parent;
@@ -37,38 +35,38 @@ with_pair s S N = record {
   gibbsite = s.gibbsite;
   ceiling = s.ceiling;
   leachate = s.leachate;
-  sulphur = S;
-  nitrogen = N;
+  sulphur = p.sulphur;
+  nitrogen = p.nitrogen;
 }
 
 -- what the judgement answers, with the pair that was judged
-unfoldable pub keyed : (S N : ℕ) → JudgementAnswer → SampleAnswer
-keyed S N (Judgement j) = Given (record { sulphur = S; nitrogen = N; judged = j })
-keyed S N (NotJudged rule) = Refused rule 0
+unfoldable pub keyed : Pair → JudgementAnswer → Result Sampled Refusal
+keyed p (Judgement j) = Ok (record { pair = p; judged = j })
+keyed p (NotJudged rule) = Err (record { rule = rule; at = 0 })
 
 -- the year's pair as when entered by key, or the year's refusal
-unfoldable pub year_answer : Site → Year → SampleAnswer
-year_answer s (Pair S N) = keyed S N (judgement_answer (with_pair s S N))
-year_answer s (YearRefused rule at) = Refused rule at
+unfoldable pub year_answer : Site → Result Pair Refusal → Result Sampled Refusal
+year_answer s (Ok p) = keyed p (judgement_answer (with_pair s p))
+year_answer s (Err refusal) = Err refusal
 
 -- a check of the site before another answer
-abbrev pub checked_first : Checked → SampleAnswer → SampleAnswer
-checked_first c a = answer_if (λ (x : SampleAnswer). x) (λ rule. Refused rule 0) c a
+abbrev pub checked_first : Checked → Result Sampled Refusal → Result Sampled Refusal
+checked_first c a = answer_if (λ (x : Result Sampled Refusal). x) (λ rule. Err (record { rule = rule; at = 0 })) c a
 
-unfoldable pub sample_answer : Site → List Month → SampleAnswer
+unfoldable pub sample_answer : Site → List Month → Result Sampled Refusal
 sample_answer s ms = checked_first (site_rule s) (year_answer s (year_of ms))
 
 -- what is given: the pair of the months, and the judgement of the same site with this pair put into its field 0F
 pub record ByKey (s : Site) (ms : List Month) (p : Sampled) : Type 0 where
-  pub pair : year_of ms ≡ Pair p.sulphur p.nitrogen
-  pub judgement : judgement_answer (with_pair s p.sulphur p.nitrogen) ≡ Judgement p.judged
+  pub pair : year_of ms ≡ Ok p.pair
+  pub judgement : judgement_answer (with_pair s p.pair) ≡ Judgement p.judged
 
 -- the values of each case: the pair, and the judgement's values; or the refusal's number and offset
-unfoldable pub sample_values : SampleAnswer → List ℕ
-sample_values (Given p) = p.sulphur ∷ p.nitrogen ∷ judged_values p.judged
-sample_values (Refused rule at) = rule_number rule ∷ at ∷ []
+unfoldable pub sample_values : Result Sampled Refusal → List ℕ
+sample_values (Ok p) = p.pair.sulphur ∷ p.pair.nitrogen ∷ judged_values p.judged
+sample_values (Err r) = rule_number r.rule ∷ r.at ∷ []
 
 -- what these values are for a year, on the terms of a site that passes
-unfoldable pub year_values : Terms → Year → List ℕ
-year_values t (Pair S N) = S ∷ N ∷ pair_values t S N
-year_values t (YearRefused rule at) = rule_number rule ∷ at ∷ []
+unfoldable pub year_values : Terms → Result Pair Refusal → List ℕ
+year_values t (Ok p) = p.sulphur ∷ p.nitrogen ∷ pair_values t p.sulphur p.nitrogen
+year_values t (Err r) = rule_number r.rule ∷ r.at ∷ []

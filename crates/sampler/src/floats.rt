@@ -6,25 +6,13 @@ ghost use Rattle.sampler.specs.FloatBits.{exponent, units};
 
 use site::Rule;
 
-// µg per litre, or the rule that a reading breaks.
-#[derive(Clone, Copy)]
-pub enum Concentration {
-    Micrograms(u64),
-    Refused(Rule),
-}
-
-// 1000 × q / 2 ^ s, up.
+// 1000 × q / 2 ^ s, up: 1 at most from s 63 on, so that no greater power is needed.
+#[tactic(auto, using(crate::proofs::QuotientLaws::up_power))]
 fn scaled(q: u64, s: u64) -> u64
     requires { q < 16777216 }
     ensures { result ≡ up (1000 * q) (2 ^ s) }
 {
-    if q == 0 {
-        return 0;
-    }
-    if s > 63 {
-        return 1;
-    }
-    ((1000 * q - 1) >> s) + 1
+    (1000 * q).div_ceil(1 << s.min(63))
 }
 
 // The number that the bits stand for without their sign, × 1000, up. An exponent of 0 has no hidden bit.
@@ -33,24 +21,19 @@ fn scaled_bits(b: u64) -> u64
     requires { exponent b ≤ 149 }
     ensures { result ≡ up (1000 * units b) (2 ^ 149) }
 {
-    let exponent = b % 0x8000_0000 / 0x80_0000;
     let fraction = b % 0x80_0000;
-    if exponent == 0 {
-        return scaled(fraction, 149);
+    match b % 0x8000_0000 / 0x80_0000 {
+        0 => scaled(fraction, 149),
+        exponent => scaled(0x80_0000 + fraction, 150 - exponent),
     }
-    scaled(0x80_0000 + fraction, 150 - exponent)
 }
 
-// The first test is false at a NaN and true at minus zero.
-pub fn concentration_of(x: f32) -> Concentration
+// µg per litre, or rule 12. The first test is false at a NaN and true at minus zero.
+pub fn concentration_of(x: f32) -> Result<u64, Rule>
     ensures { result ≡ concentration_of x }
 {
-    if x >= 0.0 {
-        if x <= 1000.0 {
-            let b = f32::to_bits(x) as u64;
-            return Concentration::Micrograms(scaled_bits(b));
-        }
-        return Concentration::Refused(Rule::BadConcentration);
+    if x >= 0.0 && x <= 1000.0 {
+        return Ok(scaled_bits(u64::from(x.to_bits())));
     }
-    Concentration::Refused(Rule::BadConcentration)
+    Err(Rule::BadConcentration)
 }

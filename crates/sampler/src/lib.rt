@@ -8,7 +8,6 @@ mod years;
 
 use judgement::Judged;
 pub use judging::{judge_months, refuse_checked};
-use site::Rule;
 
 // A concentration in mg per litre: as measured, the detection limit it lay below, or missing.
 #[derive(Clone, Copy)]
@@ -27,17 +26,16 @@ pub struct Month {
     pub ammonium: Reading,
 }
 
-// The pair S, N of a year, and its judgement at a site.
+// The pair S, N of a year.
 #[derive(Clone, Copy)]
-pub struct Sampled {
+pub struct Pair {
     pub sulphur: u16,
     pub nitrogen: u16,
-    pub judged: Judged,
 }
 
-// The pair with its judgement, or the rule that is broken first and its offset: 0 for the site, the month's index, or 12 for the year.
+// The pair with its judgement at a site.
 #[derive(Clone, Copy)]
-pub enum SampleAnswer {
-    Given(Sampled),
-    Refused { rule: Rule, at: usize },
+pub struct Sampled {
+    pub pair: Pair,
+    pub judged: Judged,
 }
