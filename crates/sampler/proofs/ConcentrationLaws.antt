@@ -1,9 +1,8 @@
 -- A float's µg: what the definition means, by the two tests of the code, and by the float's bits.
 use Prim.Native.Nat.{ℕ, ◌+◌, ◌*◌, ◌%◌, ◌^◌, ◌≤◌, ◌<◌}
 use mathlib.Core.Path.{◌≡◌, refl, sym, ap, ◌∙◌, subst}
-use mathlib.Core.Logic.{◌⊎◌, inl, inr}
 use mathlib.Core.Bool.{Bool, true, false, ◌&&◌, ◌||◌, true≢false}
-use native.Mathlib.Nat.{mul_assoc, mul_right_comm, mul-le-mul_right, le_trans, le_of_eq, le_of_mul-le-mul_right, eq-or-lt_of_le}
+use native.Mathlib.Nat.{mul_assoc, mul_right_comm, mul-le-mul_right, le_trans, le_of_eq, le_of_mul-le-mul_right}
 use native.Mathlib.Omega.{arith}
 use native.Mathlib.Decide.{dec_le}
 use lib.Dec.{T, leb, ltb, eqb}
@@ -13,7 +12,8 @@ use lib.Ieee.{Float, nan, inf, fin, binary32, up as up_power, down as down_power
 use lib.Ieee.Fits.{down_pos}
 use lib.Ieee.Scale.{finite}
 use lib.Ieee.Positive.{num, den, den_pos}
-use borrow.Author.Tests.{le-leb, lt-leb, lt-ltb, le-ltb, eq-eqb, ne_eqb, leb-true, leb-false, eqb-true}
+use Rattle.std.proofs.lemmas.Bool.Decides.{nat_tests}
+use borrow.Author.Tests.{le-leb, lt-leb, lt-ltb, eq-eqb, ne_eqb, leb-true}
 use Rattle.std.specs.Prelude.{Ok, Err}
 use Rattle.site.specs.Choice.{pick}
 use Rattle.site.proofs.Tests.{and_r}
@@ -69,24 +69,11 @@ abbrev pub thousand_f : Float
 thousand_f = fin false 125 (pos 3)
 
 -- `<` or `==` of two numbers with one sign is `≤`
-or_is : (a c : ℕ) → (ltb a c || (eqb a c && true)) ≡ leb a c
-or_is a c = go (dec_le a c)
-  where
-    low : a ≤ c → (a ≡ c) ⊎ (a < c) → (ltb a c || (eqb a c && true)) ≡ leb a c
-    low h (inl e) = rw (le-ltb a c (omega arith), eq-eqb a c e, le-leb a c h)
-    low h (inr l) = rw (lt-ltb a c l, le-leb a c h)
-
-    go : Dec (a ≤ c) → (ltb a c || (eqb a c && true)) ≡ leb a c
-    go (yes h) = low h (eq-or-lt_of_le h)
-    go (no n) =
-        let g : c < a = omega arith in
-        rw (le-ltb a c (omega arith), ne_eqb a c (λ e. omega arith), lt-leb a c g)
-
 or_le : (a c : ℕ) → (ltb a c || (eqb a c && true)) ≡ true → a ≤ c
-or_le a c h = leb-true a c (sym (or_is a c) ∙ h)
+or_le a c h = grind (arith, nat_tests)
 
 or_lt : (a c : ℕ) → (ltb a c || (eqb a c && true)) ≡ false → c < a
-or_lt a c h = leb-false a c (sym (or_is a c) ∙ h)
+or_lt a c h = grind (arith, nat_tests)
 
 -- what they give where both pass
 pub record Inside (x : Float) : Type 0 where
@@ -94,22 +81,15 @@ pub record Inside (x : Float) : Type 0 where
   pub small : num x ≤ 1000 * den x
   pub taken : concentration_of x ≡ Ok (up (1000 * num x) (den x))
 
-clash : {X : Type 0} → false ≡ true → X
-clash h = absurd (true≢false (sym h))
-
 -- minus zero, which is not below zero
 minus_zero : (z a : ℕ) → (eqb z a && (false || eqb z 0)) ≡ true → a ≡ z
-minus_zero z a h = go (eqb z a) refl h
-  where
-    go : (b : Bool) → eqb z a ≡ b → (b && (false || eqb z 0)) ≡ true → a ≡ z
-    go true e k = sym (eqb-true z a e)
-    go false e k = clash k
+minus_zero z a h = grind (arith, nat_tests)
 
 pub inside : (x : Float) → le zero_f x ≡ true → le x thousand_f ≡ true → Inside x
 unfolding le concentration_of
-inside nan g h = clash g
-inside (inf true) g h = clash g
-inside (inf false) g h = clash h
+inside nan g h = absurd (cc)
+inside (inf true) g h = absurd (cc)
+inside (inf false) g h = absurd (cc)
 inside (fin false m e) g h =
     let l : m * up_power e ≤ 1000 * down_power e = let k : m * up_power e * 1 ≤ 1000 * down_power e = or_le (m * up_power e * 1) (1000 * down_power e) h in omega arith in
     record { is_finite = tt; small = l; taken = rw (le-leb (m * up_power e) (1000 * down_power e) l) }

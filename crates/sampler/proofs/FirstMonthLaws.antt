@@ -8,7 +8,7 @@ use native.Mathlib.Omega.{arith}
 use lib.Dec.{leb}
 use lib.ListN.{length}
 use borrow.Author.Tests.{leb-true, leb-false}
-use Rattle.std.specs.Prelude.{Result, Ok, Err}
+use Rattle.std.specs.Prelude.{sum_by, Result, Ok, Err}
 use Rattle.site.specs.Choice.{pick}
 use Rattle.site.specs.Ranges.{deposition_range}
 use Rattle.site.specs.declared.Rule.{Rule}
@@ -17,7 +17,7 @@ use Rattle.site.specs.declared.Checked.{Checked}
 use Rattle.site.specs.declared.Checked.TheVariants.{Passed, Broken}
 use Rattle.loads.specs.Rounding.{up}
 use Rattle.sampler.specs.MonthRules.{month_rule, sulphur_of, nitrogen_of}
-use Rattle.sampler.specs.YearPair.{total, too_large, pair_of, unless_at, months_checked, year_of}
+use Rattle.sampler.specs.YearPair.{too_large, pair_of, unless_at, months_checked, year_of}
 use Rattle.sampler.specs.FirstMonth.{Pass, ByMonth, ByYear, IsPair}
 use Rattle.sampler.specs.declared.Month.{Month}
 use Rattle.sampler.specs.declared.Pair.{Pair}
@@ -52,10 +52,10 @@ ends i (m ∷ ms) y = go (month_rule m) refl (ends (suc i) ms y)
 
 module _ (ms : List Month) where
   abbrev S : ℕ
-  S = up (total sulphur_of ms) 1600
+  S = up (sum_by sulphur_of ms) 1600
 
   abbrev N : ℕ
-  N = up (total nitrogen_of ms) 1400
+  N = up (sum_by nitrogen_of ms) 1400
 
   abbrev pair : Pair
   pair = record { sulphur = S; nitrogen = N }

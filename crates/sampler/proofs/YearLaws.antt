@@ -1,30 +1,27 @@
 -- One step over the months.
-use Prim.Native.Nat.{ℕ, zero, suc, ◌+◌, ◌<◌}
-use mathlib.Core.Path.{◌≡◌, refl}
-use mathlib.Core.List.{List, [], ◌∷◌}
+use Prim.Native.Nat.{ℕ, suc, ◌+◌, ◌<◌}
+use mathlib.Core.Path.{◌≡◌}
+use mathlib.Core.List.{List}
 use native.Mathlib.Nat.{add_assoc, zero-add}
 use native.Mathlib.Omega.{arith}
 use lib.ListN.{length, get_or, drop}
-use Rattle.std.specs.Prelude.{Result}
+use Rattle.std.specs.Prelude.{sum_by, Result}
+use Rattle.std.proofs.Math.Seq.{drop-cons}
+use Rattle.std.proofs.lemmas.List.Sums.{sum_by-cons}
 use Rattle.site.specs.declared.Refusal.{Refusal}
 use Rattle.site.specs.declared.Checked.TheVariants.{Passed}
 use Rattle.sampler.specs.MonthRules.{month_rule, sulphur_of, nitrogen_of}
-use Rattle.sampler.specs.YearPair.{total, divided_pair, months_checked, year_of}
+use Rattle.sampler.specs.YearPair.{divided_pair, months_checked, year_of}
 use Rattle.sampler.specs.declared.Month.{Month}
 use Rattle.sampler.specs.declared.Pair.{Pair}
 
 -- what comes of the months from index i on, with the sums before them
 abbrev pub onward : List Month → (i s n : ℕ) → Result Pair Refusal
-onward ms i s n = months_checked i (drop i ms) (divided_pair (s + total sulphur_of (drop i ms)) (n + total nitrogen_of (drop i ms)))
-
-drop-cons : (ms : List Month) (i : ℕ) (d : Month) → i < length ms → drop i ms ≡ get_or ms i d ∷ drop (suc i) ms
-drop-cons [] i d h = absurd (omega arith)
-drop-cons (m ∷ ms) zero d h = refl
-drop-cons (m ∷ ms) (suc i) d h = drop-cons ms i d (omega arith)
+onward ms i s n = months_checked i (drop i ms) (divided_pair (s + sum_by sulphur_of (drop i ms)) (n + sum_by nitrogen_of (drop i ms)))
 
 pub onward_start : (ms : List Month) → year_of ms ≡ onward ms 0 0 0
 unfolding year_of
-onward_start ms = rw (zero-add (total sulphur_of ms), zero-add (total nitrogen_of ms))
+onward_start ms = rw (zero-add (sum_by sulphur_of ms), zero-add (sum_by nitrogen_of ms))
 
 module _ (ms : List Month) (i s n : ℕ) (d : Month) (inside : i < length ms) where
   -- x and y are the code's own numbers, with what they are beside them
@@ -33,4 +30,4 @@ module _ (ms : List Month) (i s n : ℕ) (d : Month) (inside : i < length ms) wh
       let m = get_or ms i d in
       let rest = drop (suc i) ms in
       let one : i + 1 ≡ suc i = omega arith in
-      rw (one, w.1, w.2, drop-cons ms i d inside, w.0, add_assoc s (sulphur_of m) (total sulphur_of rest), add_assoc n (nitrogen_of m) (total nitrogen_of rest))
+      rw (one, w.1, w.2, drop-cons ms i d inside, w.0, sum_by-cons sulphur_of m rest, sum_by-cons nitrogen_of m rest, add_assoc s (sulphur_of m) (sum_by sulphur_of rest), add_assoc n (nitrogen_of m) (sum_by nitrogen_of rest))

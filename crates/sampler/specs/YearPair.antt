@@ -1,5 +1,5 @@
 -- The pair S, N of a year: the sums over its months, each divided once, up.
-use Rattle.std.specs.Prelude.{ℕ, suc, ◌+◌, ◌&&◌, List, [], ◌∷◌, leb, Result, Ok, Err}
+use Rattle.std.specs.Prelude.{ℕ, suc, ◌&&◌, List, [], ◌∷◌, sum_by, leb, Result, Ok, Err}
 use Rattle.site.specs.Choice.{pick}
 use Rattle.site.specs.Ranges.{deposition_range}
 use Rattle.site.specs.declared.Rule.TheVariants.{PairTooLarge}
@@ -10,11 +10,6 @@ use Rattle.loads.specs.Rounding.{up}
 use Rattle.sampler.specs.MonthRules.{month_rule, sulphur_of, nitrogen_of}
 use Rattle.sampler.specs.declared.Month.{Month}
 use Rattle.sampler.specs.declared.Pair.{Pair}
-
--- the sum over the months
-abbrev pub total : (Month → ℕ) → List Month → ℕ
-total f [] = 0
-total f (m ∷ ms) = f m + total f ms
 
 -- rule 14, always at 12
 abbrev pub too_large : Refusal
@@ -37,4 +32,4 @@ months_checked i [] y = y
 months_checked i (m ∷ ms) y = unless_at (month_rule m) i (months_checked (suc i) ms y)
 
 unfoldable pub year_of : List Month → Result Pair Refusal
-year_of ms = months_checked 0 ms (divided_pair (total sulphur_of ms) (total nitrogen_of ms))
+year_of ms = months_checked 0 ms (divided_pair (sum_by sulphur_of ms) (sum_by nitrogen_of ms))
