@@ -1,17 +1,13 @@
 -- The walk over the months gives the first refusal, and what stands behind them where there is none.
-use Prim.Native.Nat.{ℕ, zero, suc, ◌+◌}
+use Prim.Native.Nat.{ℕ, zero, suc, ◌+◌, ◌<◌, ◌≤◌}
 use mathlib.Core.Path.{◌≡◌, refl, sym, ◌∙◌}
-use mathlib.Core.Bool.{Bool, true, false, ◌&&◌}
 use mathlib.Core.Logic.{◌⊎◌, inl, inr}
 use mathlib.Core.List.{List, [], ◌∷◌}
 use native.Mathlib.Omega.{arith}
-use lib.Dec.{leb}
 use lib.ListN.{length}
-use borrow.Author.Tests.{leb-true, leb-false}
+use Rattle.std.proofs.lemmas.Bool.Decides.{nat_tests}
 use Rattle.std.specs.Prelude.{sum_by, Result, Ok, Err}
-use Rattle.site.specs.Choice.{pick}
 use Rattle.site.specs.Ranges.{deposition_range}
-use Rattle.site.specs.declared.Rule.{Rule}
 use Rattle.site.specs.declared.Refusal.{Refusal}
 use Rattle.site.specs.declared.Checked.{Checked}
 use Rattle.site.specs.declared.Checked.TheVariants.{Passed, Broken}
@@ -23,8 +19,8 @@ use Rattle.sampler.specs.declared.Month.{Month}
 use Rattle.sampler.specs.declared.Pair.{Pair}
 
 -- the walk from index i on, as it ends: at a month, or behind all of them
-pub data Ends (i : ℕ) (ms : List Month) (y z : Result Pair Refusal) : Type 0 where
-  at_month : (rule : Rule) (k : ℕ) → ByMonth ms rule k → z ≡ Err (record { rule = rule; at = i + k }) → Ends i ms y z
+data Ends (i : ℕ) (ms : List Month) (y z : Result Pair Refusal) : Type 0 where
+  at_month : (r : Refusal) → ByMonth ms r → z ≡ Err (record { rule = r.rule; at = i + r.at }) → Ends i ms y z
   behind : Pass ms (length ms) → z ≡ y → Ends i ms y z
 
 none_before : (ms : List Month) → Pass ms 0
@@ -35,9 +31,9 @@ one_more m ms n p q zero h d = p
 one_more m ms n p q (suc k) h d = q k (omega arith) d
 
 later : (i : ℕ) (m : Month) (ms : List Month) (y z : Result Pair Refusal) → month_rule m ≡ Passed → Ends (suc i) ms y z → Ends i (m ∷ ms) y z
-later i m ms y z p (at_month rule k f e) =
-    let same : suc i + k ≡ i + suc k = omega arith in
-    at_month rule (suc k) (record { inside = let h = f.inside in omega arith; before = one_more m ms k p f.before; broken = f.broken }) (rw same at e)
+later i m ms y z p (at_month r f e) =
+    let same : suc i + r.at ≡ i + suc r.at = omega arith in
+    at_month (record { rule = r.rule; at = suc r.at }) (record { inside = let h = f.inside in omega arith; before = one_more m ms r.at p f.before; broken = f.broken }) (rw same at e)
 later i m ms y z p (behind q e) = behind (one_more m ms (length ms) p q) e
 
 ends : (i : ℕ) (ms : List Month) (y : Result Pair Refusal) → Ends i ms y (months_checked i ms y)
@@ -46,9 +42,16 @@ ends i (m ∷ ms) y = go (month_rule m) refl (ends (suc i) ms y)
   where
     go : (c : Checked) → month_rule m ≡ c → Ends (suc i) ms y (months_checked (suc i) ms y) → Ends i (m ∷ ms) y (unless_at c i (months_checked (suc i) ms y))
     go Passed e rest = later i m ms y (months_checked (suc i) ms y) e rest
-    go (Broken r) e rest =
+    go (Broken rule) e rest =
         let same : i + 0 ≡ i = omega arith in
-        at_month r 0 (record { inside = omega arith; before = none_before (m ∷ ms); broken = λ d. e }) (rw same)
+        at_month (record { rule = rule; at = 0 }) (record { inside = omega arith; before = none_before (m ∷ ms); broken = λ d. e }) (rw same)
+
+-- behind the months
+refused_pair : (S N : ℕ) (r : Refusal) → pair_of S N ≡ Err r → (too_large ≡ r) × ((deposition_range.most < S) ⊎ (deposition_range.most < N))
+refused_pair S N r e = (grind (arith, nat_tests), grind (arith, nat_tests))
+
+given_pair : (S N : ℕ) (p : Pair) → pair_of S N ≡ Ok p → (p.sulphur ≡ S) × (p.nitrogen ≡ N) × (S ≤ deposition_range.most) × (N ≤ deposition_range.most)
+given_pair S N p e = (grind (arith, nat_tests), grind (arith, nat_tests), grind (arith, nat_tests), grind (arith, nat_tests))
 
 module _ (ms : List Month) where
   abbrev S : ℕ
@@ -57,54 +60,26 @@ module _ (ms : List Month) where
   abbrev N : ℕ
   N = up (sum_by nitrogen_of ms) 1400
 
-  abbrev pair : Pair
-  pair = record { sulphur = S; nitrogen = N }
-
-  -- behind the months
-  large : Pass ms (length ms) → {r : Refusal} → Err r ≡ pair_of S N → ByYear ms r.rule r.at
-  large before {r} = go (leb S deposition_range.most) refl (leb N deposition_range.most) refl
-    where
-      go : (a : Bool) → leb S deposition_range.most ≡ a → (b : Bool) → leb N deposition_range.most ≡ b → Err r ≡ pick (a && b) (Ok pair) (Err too_large) → ByYear ms r.rule r.at
-      go true p true q e = absurd (cc)
-      go true p false q e = record { before = before; is_14 = cc; at_12 = cc; large = inr (leb-false N deposition_range.most q) }
-      go false p b q e = record { before = before; is_14 = cc; at_12 = cc; large = inl (leb-false S deposition_range.most p) }
-
-  paired : Pass ms (length ms) → {p : Pair} → Ok p ≡ pair_of S N → IsPair ms p.sulphur p.nitrogen
-  paired before {p} = go (leb S deposition_range.most) refl (leb N deposition_range.most) refl
-    where
-      go : (a : Bool) → leb S deposition_range.most ≡ a → (b : Bool) → leb N deposition_range.most ≡ b → Ok p ≡ pick (a && b) (Ok pair) (Err too_large) → IsPair ms p.sulphur p.nitrogen
-      go true h true q e =
-          let s : p.sulphur ≡ S = cc in
-          let n : p.nitrogen ≡ N = cc in
-          record {
-            before = before;
-            sulphur = s;
-            nitrogen = n;
-            most_sulphur = rw s (leb-true S deposition_range.most h);
-            most_nitrogen = rw n (leb-true N deposition_range.most q);
-          }
-      go true h false q e = absurd (cc)
-      go false h b q e = absurd (cc)
-
-  pub year_refused : {r : Refusal} → year_of ms ≡ Err r → ByMonth ms r.rule r.at ⊎ ByYear ms r.rule r.at
+  pub year_refused : {r : Refusal} → year_of ms ≡ Err r → ByMonth ms r ⊎ ByYear ms r
   unfolding year_of
   year_refused {r} e = go (ends 0 ms (pair_of S N))
     where
-      go : Ends 0 ms (pair_of S N) (months_checked 0 ms (pair_of S N)) → ByMonth ms r.rule r.at ⊎ ByYear ms r.rule r.at
-      go (at_month rule k f q) =
-          let w : ◌≡◌ {A = Result Pair Refusal} (Err r) (Err (record { rule = rule; at = 0 + k })) = sym e ∙ q in
-          let same : r.rule ≡ rule = cc in
-          let there : r.at ≡ 0 + k = cc in
-          let zero-plus : 0 + k ≡ k = omega arith in
-          inl (rw (same, there ∙ zero-plus) f)
-      go (behind p q) = inr (large p (sym e ∙ q))
+      go : Ends 0 ms (pair_of S N) (months_checked 0 ms (pair_of S N)) → ByMonth ms r ⊎ ByYear ms r
+      go (at_month q f w) =
+          let here : 0 + q.at ≡ q.at = omega arith in
+          let g = rw here at w in
+          let same : q ≡ r = cc in
+          inl (rw same at f)
+      go (behind b q) =
+          let w = refused_pair S N r (sym q ∙ e) in
+          inr (record { before = b; is_14 = cc; at_12 = cc; large = w.1 })
 
-  pub year_pair_is : {p : Pair} → year_of ms ≡ Ok p → IsPair ms p.sulphur p.nitrogen
+  pub year_pair_is : {p : Pair} → year_of ms ≡ Ok p → IsPair ms p
   unfolding year_of
   year_pair_is {p} e = go (ends 0 ms (pair_of S N))
     where
-      go : Ends 0 ms (pair_of S N) (months_checked 0 ms (pair_of S N)) → IsPair ms p.sulphur p.nitrogen
-      go (at_month rule k f q) =
-          let w : ◌≡◌ {A = Result Pair Refusal} (Ok p) (Err (record { rule = rule; at = 0 + k })) = sym e ∙ q in
-          absurd (cc)
-      go (behind b q) = paired b (sym e ∙ q)
+      go : Ends 0 ms (pair_of S N) (months_checked 0 ms (pair_of S N)) → IsPair ms p
+      go (at_month r f w) = absurd (cc (sym e ∙ w))
+      go (behind b q) =
+          let w = given_pair S N p (sym q ∙ e) in
+          record { before = b; sulphur = w.0; nitrogen = w.1; most_sulphur = rw w.0 w.2; most_nitrogen = rw w.1 w.3 }

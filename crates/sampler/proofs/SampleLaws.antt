@@ -146,7 +146,7 @@ pub year_at : (s : Site) (ms : List Month) → length ms ≡ 12 → (r : Refusal
 unfolding year_answer
 year_at s ms l r = go (year_of ms) refl
   where
-    placed : (q : Refusal) → ByMonth ms q.rule q.at ⊎ ByYear ms q.rule q.at → q.at ≤ 12
+    placed : (q : Refusal) → ByMonth ms q ⊎ ByYear ms q → q.at ≤ 12
     placed q (inl f) = let h = f.inside in omega arith
     placed q (inr f) = let h = f.at_12 in omega arith
 
