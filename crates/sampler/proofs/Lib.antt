@@ -1,7 +1,6 @@
 pub mod QuotientLaws
 pub mod BitsLaws
 pub mod ConcentrationLaws
-pub mod YearLaws
 pub mod FirstMonthLaws
 pub mod SampleLaws
 pub mod Cases

@@ -18,6 +18,6 @@ pub returns : goal.returns
 unfolding of_bits
 returns c =
     elim c.else-x.branch [
-      else-x-via-then-x+else-x-2 w ↦ sym (above_most _ w.if-x-2.false)
+      | else-x-via-then-x+else-x-2 w ↦ sym (above_most _ w.if-x-2.false)
       | else-x-via-else-x w ↦ sym (below_zero _ w.if-x.false)
     ]
