@@ -1,116 +1,53 @@
 -- What the reads bring where it is known which bytes the reader has left: the file, whole and in order, as far as the buffer takes it.
-use Rattle.std.proofs.Common.{ℕ, ◌+◌, ◌<◌, ◌≤◌, ◌≡◌, ◌≢◌, List, [], ◌++◌, ℤ, pos, negsuc, Bool, true, false, Option, Some, None, IfSome, refl, sym, ap, subst, ◌∙◌, arith, length, take, drop, append_assoc, append-nil, take_all}
-use Rattle.std.proofs.Math.Seq.{take-add, take-append_seam}
-use Rattle.std.proofs.lemmas.List.{length-drop, length-take-le}
-use mathlib.Core.Logic.{⊎_elim}
-use borrow.Author.Tests.{eqb-true}
-use lib.Dec.{ltb, eqb}
+use Rattle.std.proofs.Common.{ℕ, ◌+◌, ◌<◌, ◌≤◌, ◌≡◌, ◌≢◌, List, [], ◌++◌, Option, Some, None, IfSome, refl, sym, ◌∙◌, arith, length, take, drop}
+use Rattle.std.proofs.Math.Seq.{take-add}
+use Rattle.std.proofs.lemmas.List.{length-drop}
+use Rattle.std.proofs.KnownBytes.{Consumes-trans}
+use Rattle.std.proofs.lemmas.Grind.{common_steps}
 use Rattle.std.specs.Io.KnownBytes.{Consumes, IsAtEnd}
-use Rattle.site.specs.Choice.{pick}
-use Rattle.site.proofs.Tests.{le_or_lt}
-use Rattle.program.specs.declared.ReadState.{ReadState}
+use Rattle.program.specs.declared.Input.{Input}
 use Rattle.program.specs.declared.ReadState.TheVariants.{More, Ended, Failed}
 use Rattle.program.specs.Printing.{ReadFrom}
-use Rattle.program.specs.Reads.{after_read, Given}
-
-lost_both : (a b c : Option (List ℕ)) (x y : List ℕ) → Consumes a b x → Consumes b c y → Consumes a c (x ++ y)
-lost_both None b c x y p q = tt
-lost_both (Some f) None c x y p q = absurd p
-lost_both (Some f) (Some g) None x y p q = absurd q
-lost_both (Some f) (Some g) (Some h) x y p q = p ∙ ap (λ l. x ++ l) q ∙ sym (append_assoc x y h)
+use Rattle.program.specs.Reads.{after_read, Given, ReadOnce}
+use Rattle.program.proofs.ReaderLaws.{more_by, ended_by, has_ended}
 
 -- the buffer's first n bytes are all that the reader lost, and they are the whole buffer or all that there is
-front_is : (f rest b : List ℕ) (n : ℕ) → n ≤ length b → f ≡ take n b ++ rest → (n < length b → rest ≡ []) → take n b ≡ take (length b) f
-front_is f rest b n h e r =
-    ⊎_elim
-    (λ (l : length b ≤ n).
-    let all : take n b ≡ b = take_all n b l in
-    let whole : f ≡ b ++ rest = rw all at e in
-    all ∙ sym (ap (take (length b)) whole ∙ take-append_seam b rest))
-    (λ (l : n < length b).
-    let whole : f ≡ take n b = e ∙ ap (λ t. take n b ++ t) (r l) ∙ append-nil (take n b) in
-    sym (ap (take (length b)) whole ∙ take_all (length b) (take n b) (omega (arith, length-take-le n b h))))
-    (le_or_lt (length b) n)
+front_is : (f b rest : List ℕ) (n : ℕ) → n ≤ length b → f ≡ take n b ++ rest → (n < length b → rest ≡ []) → take n b ≡ take (length b) f
+front_is f b rest n l h e = grind (arith, common_steps)
 
--- the reading has ended with n bytes in the buffer
-ended_whole : (a c : Option (List ℕ)) (b : List ℕ) (n : ℕ) → n ≤ length b → Consumes a c (take n b) → (n < length b → IsAtEnd c)
-    → IfSome a (λ f. Ended n ≢ Failed → ReadFrom f b (Ended n))
-ended_whole None c b n h l e = tt
-ended_whole (Some f) None b n h l e = absurd l
-ended_whole (Some f) (Some g) b n h l e = λ _. record { count = n; ended = refl; bytes = front_is f g b n h l e }
+front_lost : (f b : List ℕ) (c : Option (List ℕ)) (n : ℕ) → n ≤ length b → Consumes (Some f) c (take n b) → (n < length b → IsAtEnd c)
+    → take n b ≡ take (length b) f
+front_lost f b None n l h e = absurd h
+front_lost f b (Some rest) n l h e = front_is f b rest n l h e
 
-failed_whole : (a : Option (List ℕ)) (b : List ℕ) → IfSome a (λ f. Failed ≢ Failed → ReadFrom f b Failed)
-failed_whole None b = tt
-failed_whole (Some f) b = λ n. absurd (n refl)
+-- `done` bytes are there that the reader lost, and a read puts more behind them
+module _ (a b c : Option (List ℕ)) {before after : List ℕ} {done : ℕ} {i : Input} (once : ReadOnce before after done i)
+    (lost : Consumes a b (take done before)) (given : Given b c (drop done after) i.last) where
+  both : (k : ℕ) → Consumes b c (take k (drop done after)) → Consumes a c (take (done + k) after)
+  both k h = rw (take-add done k after, once.kept) (Consumes-trans a b c _ _ lost h)
 
--- `done` bytes are there, and a read puts more behind them
-module _ (a b c : Option (List ℕ)) (before after : List ℕ) (done : ℕ) (kept : take done after ≡ take done before)
-    (lost : Consumes a b (take done before)) where
-  lost_more : (k : ℕ) → Consumes b c (take k (drop done after)) → Consumes a c (take (done + k) after)
-  lost_more k h = subst (Consumes a c) (ap (λ l. l ++ take k (drop done after)) (sym kept) ∙ sym (take-add done k after)) (lost_both a b c _ _ lost h)
-
-  pub more_lost : (size n : ℕ) (g : ℤ) → Given b c (drop done after) g → after_read size done g ≡ More n → Consumes a c (take n after)
+  by_more : (n : ℕ) (got : Option ℕ) → Given b c (drop done after) got → after_read (length before) done got ≡ More n → Consumes a c (take n after)
   unfolding after_read
-  more_lost size n (negsuc k) h e = cc
-  more_lost size n (pos k) h e = zero? (eqb k 0) refl
-    where
-      last? : (t : Bool) → pick t (Ended size) Failed ≡ More n → Consumes a c (take n after)
-      last? true q = cc
-      last? false q = cc
+  by_more n None g e = cc
+  by_more n (Some k) g e = rw (more_by _ _ _ k e).0 (both k g.0)
 
-      more? : (t : Bool) → pick t (More (done + k)) (pick (eqb (done + k) size) (Ended size) Failed) ≡ More n → Consumes a c (take n after)
-      more? true q = let same : done + k ≡ n = cc in subst (λ m. Consumes a c (take m after)) same (lost_more k h.0)
-      more? false q = last? (eqb (done + k) size) q
+  pub more_lost : (n : ℕ) → i.reading ≡ More n → Consumes a c (take n after)
+  more_lost n e = by_more n i.last given (sym once.next ∙ e)
 
-      zero? : (t : Bool) → eqb k 0 ≡ t → Consumes a c (take n after)
-      zero? true t = let q : Ended done ≡ More n = rw t at e in cc
-      zero? false t = more? (ltb (done + k) size) (rw t at e)
+  module _ (size : length after ≡ length before) (within : done ≤ length after) where
+    by_end : (f : List ℕ) (n : ℕ) (got : Option ℕ) → a ≡ Some f → Given b c (drop done after) got → after_read (length before) done got ≡ Ended n
+        → take n after ≡ take (length after) f
+    unfolding after_read
+    by_end f n None k g e = cc
+    by_end f n (Some m) k g e =
+        let end = ended_by _ _ _ m e in
+        front_lost f after c n (omega (arith, end)) (rw (← k, end.0) (both m g.0)) (λ s. g.1 (omega (arith, end)) (omega (arith, end, length-drop done after)))
 
-  whole_by : (g : ℤ) → done ≤ length after → Given b c (drop done after) g → ((n : ℕ) → after_read (length after) done g ≡ More n → ⊥)
-      → IfSome a (λ f. after_read (length after) done g ≢ Failed → ReadFrom f after (after_read (length after) done g))
-  unfolding after_read
-  whole_by (negsuc k) l h s = failed_whole a after
-  whole_by (pos k) l h s = zero? (eqb k 0) refl
-    where
-      Whole : ReadState → Type 0
-      Whole r = IfSome a (λ f. r ≢ Failed → ReadFrom f after r)
-
-      last? : (t : Bool) → eqb (done + k) (length after) ≡ t → Whole (pick t (Ended (length after)) Failed)
-      last? true t =
-          let full : done + k ≡ length after = eqb-true (done + k) (length after) t in
-          ended_whole
-          a
-          c
-          after
-          (length after)
-          (omega arith)
-          (subst (λ m. Consumes a c (take m after)) full (lost_more k h.0))
-          (λ z. absurd (omega arith))
-      last? false t = failed_whole a after
-
-      more? : (t : Bool) → eqb k 0 ≡ false → ltb (done + k) (length after) ≡ t
-          → Whole (pick t (More (done + k)) (pick (eqb (done + k) (length after)) (Ended (length after)) Failed))
-      more? true z t = absurd (s (done + k) (rw (z, t)))
-      more? false z t = last? (eqb (done + k) (length after)) refl
-
-      zero? : (t : Bool) → eqb k 0 ≡ t
-          → Whole (pick t (Ended done) (pick (ltb (done + k) (length after)) (More (done + k)) (pick (eqb (done + k) (length after)) (Ended (length after)) Failed)))
-      zero? true t =
-          let none : k ≡ 0 = eqb-true k 0 t in
-          let same : done + k ≡ done = omega arith in
-          ended_whole
-          a
-          c
-          after
-          done
-          l
-          (subst (λ m. Consumes a c (take m after)) same (lost_more k h.0))
-          (λ z. h.1 none (omega (arith, length-drop done after)))
-      zero? false t = more? (ltb (done + k) (length after)) t refl
-
-  pub whole_read : (size : ℕ) (g : ℤ) (r : ReadState) → length after ≡ size → r ≡ after_read size done g → done ≤ size
-      → Given b c (drop done after) g → ((n : ℕ) → r ≡ More n → ⊥) → IfSome a (λ f. r ≢ Failed → ReadFrom f after r)
-  whole_read size g r e n l h s =
-      let same : r ≡ after_read (length after) done g = rw (sym e) at n in
-      subst (λ t. IfSome a (λ f. t ≢ Failed → ReadFrom f after t)) (sym same)
-      (whole_by g (omega arith) h (λ m q. s m (same ∙ q)))
+    pub whole_read : ((n : ℕ) → i.reading ≡ More n → ⊥) → IfSome a (λ f. i.reading ≢ Failed → ReadFrom f after i.reading)
+    whole_read s = if_some a (λ f k h.
+        let end = has_ended i.reading s h in
+        record { count = end.0; ended = end.1; bytes = by_end f end.0 i.last k given (sym once.next ∙ end.1) })
+      where
+        if_some : (o : Option (List ℕ)) {P : List ℕ → Type 0} → ((f : List ℕ) → o ≡ Some f → P f) → IfSome o P
+        if_some None h = tt
+        if_some (Some f) h = h f refl

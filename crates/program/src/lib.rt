@@ -10,16 +10,16 @@ pub use reader::{after_read, read_all};
 pub use running::run;
 
 // Where the reading of a file stands, with how many bytes are read.
-#[derive(Clone, Copy)]
+#[derive(Clone, Copy, Debug, PartialEq, Eq)]
 pub enum ReadState {
     More(usize),
     Ended(usize),
     Failed,
 }
 
-// Where the reads have led, and the number that the last of them gave.
-#[derive(Clone, Copy)]
+// Where the reads have led, and how many bytes the last of them gave: `None` where it failed.
+#[derive(Clone, Copy, Debug, PartialEq, Eq)]
 pub struct Input {
     pub reading: ReadState,
-    pub last: isize,
+    pub last: Option<usize>,
 }

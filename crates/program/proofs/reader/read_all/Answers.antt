@@ -1,28 +1,22 @@
 -- A read that leaves more to come has brought bytes; after the last one the file is there.
-use Rattle.std.proofs.Common.{arith, ◌<◌, length, sym, ◌∙◌, inr}
+use Rattle.std.proofs.Common.{arith, sym, ◌∙◌, inr}
 use Rattle.program.proofs.ReaderLaws.{more_is_later}
 use Rattle.program.proofs.KnownLaws.{more_lost, whole_read}
 use Rattle.program.proofs.reader.read_all.Goals as goal
 
 pub loop-n-smaller : goal.loop-n-smaller
-loop-n-smaller g c =
-    let later : (c.loop-n.done < c.in-More.n) × (c.in-More.n < length c.loop-n.buffer) =
-    more_is_later _ _ _ _ (sym c.read_once-input.ensures.read.next ∙ c.in-More.is) in
-    omega (arith, later)
+loop-n-smaller g c = let later = more_is_later _ _ _ _ (sym c.read_once-input.ensures.read.next ∙ c.in-More.is) in omega (arith, later)
 
 pub loop-n-preserved : goal.loop-n-preserved
 loop-n-preserved g c =
     let once = c.read_once-input.ensures in
-    let more = sym once.read.next ∙ c.in-More.is in
-    let later : (c.loop-n.done < c.in-More.n) × (c.in-More.n < length c.loop-n.buffer) = more_is_later _ _ _ _ more in
+    let later = more_is_later _ _ _ _ (sym once.read.next ∙ c.in-More.is) in
     record {
-      within = omega (arith, later);
-      size = omega arith;
       room = inr (omega (arith, later));
-      lost = more_lost _ _ _ _ _ _ once.read.kept c.loop-n.invariant.lost _ _ _ once.given more;
+      lost = more_lost _ _ _ once.read c.loop-n.invariant.lost once.given _ c.in-More.is;
     }
 
 pub returns-in_default-clause-whole : goal.returns-in_default-clause-whole
 returns-in_default-clause-whole g c =
     let once = c.read_once-input.ensures in
-    whole_read _ _ _ _ _ _ once.read.kept c.loop-n.invariant.lost _ _ _ (omega arith) once.read.next c.loop-n.invariant.within once.given c.in_default.not-More
+    whole_read _ _ _ once.read c.loop-n.invariant.lost once.given (omega arith) (omega arith) c.in_default.not-More
