@@ -1,4 +1,3 @@
-pub mod ShownLaws
+pub mod PrintingLaws
 pub mod ReaderLaws
 pub mod KnownLaws
-pub mod PrintingLaws

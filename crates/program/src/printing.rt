@@ -1,5 +1,5 @@
 // What is printed.
-ghost use Rattle.std.specs.Prelude.{◌≡◌, List, ◌++◌, ℕ, ◌≤◌, min, length, take, drop};
+ghost use Rattle.std.specs.Prelude.{◌≡◌, List, ◌++◌, ℕ, ◌≤◌, length, take, drop};
 ghost use Rattle.listing.specs.Reports.{report_of};
 ghost use Rattle.listing.specs.PrintedDemand3.{Demand3};
 ghost use Rattle.program.specs.declared.ReadState.TheVariants.{Failed};
@@ -11,13 +11,8 @@ use crate::ReadState;
 use listing::report;
 use output::Written;
 
-fn least(a: usize, b: usize) -> usize
-    ensures { (result ≡ min a b) × (result ≤ b) }
-{
-    if a < b { a } else { b }
-}
-
 // The report of a file, with the number of bytes to print: none where the buffer is too short.
+#[tactic(auto, unfolding(site::specs::ByCheck::answer_if, output::specs::Output::held_after, output::specs::Output::output_count))]
 fn shown(file: &[u8], out: &mut [u8]) -> usize
     ensures inside { (result ≤ length out.new) × (result ≡ length (take result out.new)) }
     ensures answer { result ≡ shown_length (report_of file.now) out.old }
@@ -34,6 +29,7 @@ fn shown(file: &[u8], out: &mut [u8]) -> usize
 // The report of what was read, where the reading has ended, and nothing otherwise; gives how many bytes to print. The file's buffer
 // has room for 500 records of the greatest length and a byte more, the output's for every listing. `inside` and `failed` follow from
 // `answer` and `buffer`, and are there for callers and readers.
+#[tactic(auto, using(output::proofs::OutputLaws::room_enough), unfolding(output::specs::Output::held_after, crate::specs::Printing::output_of))]
 pub fn to_print(file: &[u8; 129001], reading: ReadState, out: &mut [u8; 81551]) -> usize
     ensures inside { (result ≤ length out.new) × (result ≡ length (take result out.new)) }
     ensures answer { result ≡ length (output_of reading file.now) }
@@ -43,11 +39,7 @@ pub fn to_print(file: &[u8; 129001], reading: ReadState, out: &mut [u8; 81551]) 
     ensures demand3 { (f : List ℕ) → ReadFrom f file.now reading → Demand3 f (take result out.new) }
 {
     match reading {
-        ReadState::Ended(n) => {
-            let bytes: &[u8] = file;
-            let m = least(n, bytes.len());
-            shown(&bytes[..m], out)
-        }
+        ReadState::Ended(n) => shown(&file[..n.min(file.len())], out),
         ReadState::More(_) => 0,
         ReadState::Failed => 0,
     }

@@ -19,9 +19,8 @@ pub fn run<R: Read, W: Write>(reader: &mut R, writer: &mut W) -> io::Result<Inpu
 {
     let mut file = [0u8; 129001];
     let input = read_all(reader, &mut file);
-    let reading = input.reading;
     let mut out = [0u8; 81551];
-    let k = to_print(&file, reading, &mut out);
+    let k = to_print(&file, input.reading, &mut out);
     writer.write_all(&out[..k])?;
     Ok(input)
 }
