@@ -7,16 +7,11 @@ ghost use Rattle.columns.specs.PageLine.{right_in};
 use output::put_bytes;
 use text::put_decimal;
 
-#[tactic(auto, using(output::proofs::WritingLaws::nothing, output::proofs::WritingLaws::ends_at))]
 pub fn put_spaces(out: &mut [u8], at: usize, count: usize) -> usize
     requires { at + count ≤ length out.old }
     ensures { Wrote out.old at (replicate count 32) out.new result }
 {
-    let mut i = 0;
-    while i < count {
-        out[at + i] = 32;
-        i += 1;
-    }
+    out[at..at + count].fill(32);
     at + count
 }
 
@@ -27,10 +22,7 @@ pub fn put_number(out: &mut [u8], at: usize, width: usize, n: u64) -> usize
     ensures { Wrote out.old at (right_in width (decimal n)) out.new result × (result ≡ at + width) }
 {
     let mut digits = [0u8; 20];
-    let mut k = put_decimal(&mut digits, 0, n);
-    if width < k {
-        k = width;
-    }
+    let k = put_decimal(&mut digits, 0, n).min(width);
     let a = put_spaces(out, at, width - k);
     put_bytes(out, a, &digits[..k])
 }

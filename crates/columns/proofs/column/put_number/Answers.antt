@@ -9,19 +9,18 @@ use Rattle.text.proofs.DecimalLaws.{length_u64}
 use Rattle.columns.specs.PageLine.{right_in}
 use Rattle.columns.proofs.PageLineLaws.{length_right}
 use Rattle.columns.proofs.column.put_number.Goals as goal
-use Rattle.columns.proofs.column.put_number.Goals.{then-width-k, else-width-k}
 
 pub returns : goal.returns
 unfolding right_in
 returns c =
     let n = c.args.n in
     let width = c.args.width in
-    let d = c.put_decimal-k.new.out in
-    let k = c.if-width-k.k in
+    let d = c.put_decimal.new.out in
+    let k = c.min-k.result in
     let rest = drop (length (decimal n)) (replicate {A = ℕ} 20 0) in
     let short = length_u64 n c.ranges.n.fits in
-    let e : (c.put_decimal-k.result ≡ length (decimal n)) × (d ≡ decimal n ++ rest) = in_front (c.put_decimal-k.ensures.fits (omega arith)) (omega arith) in
-    let least : k ≡ min width (length (decimal n)) = elim c.if-width-k.branch [ then-width-k w ↦ omega arith | else-width-k w ↦ omega arith ] in
+    let e : (c.put_decimal.result ≡ length (decimal n)) × (d ≡ decimal n ++ rest) = in_front (c.put_decimal.ensures.fits (omega arith)) (omega arith) in
+    let least : k ≡ min width (length (decimal n)) = omega arith in
     let inside : k ≤ length d = omega (arith, ap length e.1, length-append (decimal n) rest) in
     let used : take k d ≡ take width (decimal n) = ap (take k) e.1 ∙ take-append-le k (decimal n) rest (omega arith) ∙ take_min (decimal n) width k least in
     let left : width - k ≡ width - length (decimal n) = omega arith in
