@@ -1,18 +1,17 @@
 -- A line of a page has 64 characters and one end.
-use Prim.Native.Nat.{ℕ, zero, suc, ◌+◌, ◌-◌, ◌≤◌, ◌<◌}
-use mathlib.Core.Path.{◌≡◌, refl, ◌∙◌}
+use Prim.Native.Nat.{ℕ, zero, suc, ◌+◌, ◌-◌, ◌≤◌}
+use mathlib.Core.Path.{◌≡◌, refl}
 use mathlib.Core.Bool.{true}
-use mathlib.Core.Logic.{⊎_elim}
-use mathlib.Core.List.{List, [], ◌∷◌, ◌++◌, append_assoc, map}
+use mathlib.Core.List.{List, [], ◌∷◌, ◌++◌, append_assoc, append-nil}
 use native.Mathlib.Omega.{arith}
-use lib.ListN.{length, get_or, take, replicate, length-append, length-map, length-take, length-replicate, get_or-append}
+use lib.ListN.{length, get_or, take, replicate, length-append, length-take, length-replicate}
 use lib.Seq.{get_or_at, take_all}
 use borrow.Author.Tests.{eqb-false}
-use Rattle.site.proofs.Tests.{le_or_lt, lt_or_le}
 use Rattle.loads.specs.CriticalLoads.{load_numbers}
 use Rattle.judgement.specs.declared.Verdict.{Verdict}
 use Rattle.judgement.specs.declared.Verdict.TheVariants.{Within, Over}
 use Rattle.judgement.specs.Verdicts.{verdict_numbers, verdict_word}
+use Rattle.output.specs.Writing.{each}
 use Rattle.text.specs.declared.Row.{Row}
 use Rattle.text.specs.Decimal.{decimal}
 use Rattle.text.specs.Line.{numbers_of, name_text}
@@ -20,8 +19,7 @@ use Rattle.text.specs.Listing.{head_text}
 use Rattle.text.specs.Words.{cons_to, split, free}
 use Rattle.text.proofs.WordLaws.{free-cons, free-append, free_false, free-decimal}
 use Rattle.text.proofs.MarkLaws.{free_mark}
-use Rattle.site.proofs.MapLaws.{get_d_map}
-use Rattle.columns.specs.PageLine.{left_in, right_in, in_columns, page_line, head_line, line_texts, row_texts, row_line, number_width, number_columns, ended}
+use Rattle.columns.specs.PageLine.{left_in, right_in, in_columns, page_line, head_line, line_texts, row_texts, row_line, number_columns, ended}
 
 -- ---- lengths
 
@@ -68,64 +66,32 @@ head_bytes = refl
 
 -- ---- the texts of a line
 
-module _ (name ns mark : List ℕ) (seven : length ns ≡ 7) where
-  texts_length : length (map decimal ns) ≡ 7
-  texts_length = length-map ns decimal ∙ seven
+-- what holds of every seven numbers holds of a row's
+pub by_seven : (r : Row) (P : List ℕ → Type 0) → ((a b c d e f g : ℕ) → P (a ∷ b ∷ c ∷ d ∷ e ∷ f ∷ g ∷ [])) → P (numbers_of r)
+unfolding numbers_of load_numbers verdict_numbers
+by_seven r P h = by_verdict r.verdict
+  where
+    by_verdict : (v : Verdict) → P (load_numbers r.loads ++ verdict_numbers v)
+    by_verdict Within = h _ _ _ _ _ _ _
+    by_verdict (Over g a n) = h _ _ _ _ _ _ _
 
-  text_name : get_or (line_texts name ns mark) 0 [] ≡ name
-  unfolding line_texts
-  text_name = refl
+-- the line as it is written
+seven_bytes : (name mark : List ℕ) (a b c d e f g : ℕ)
+    → ended (page_line (line_texts name (a ∷ b ∷ c ∷ d ∷ e ∷ f ∷ g ∷ []) mark)) ≡ left_in 8 name ++ number_columns (a ∷ b ∷ c ∷ d ∷ e ∷ f ∷ g ∷ []) ++ (right_in 7 mark ++ (32 ∷ []) ++ (10 ∷ []))
+unfolding ended page_line in_columns line_texts number_columns each
+seven_bytes name mark a b c d e f g = simp (append_assoc, append-nil)
 
-  text_number : (k : ℕ) → k < 7 → get_or (line_texts name ns mark) (suc k) [] ≡ decimal (get_or ns k 0)
-  unfolding line_texts
-  text_number k h =
-      get_or-append (map decimal ns) (mark ∷ []) [] k (omega (arith, texts_length))
-      ∙ get_d_map decimal ns k 0 [] (omega (arith, seven))
-
-  text_mark : get_or (line_texts name ns mark) 8 [] ≡ mark
-  unfolding line_texts
-  text_mark = get_or_at (map decimal ns) mark [] [] 7 texts_length
-
-  -- the line as it is written
-  pub line_bytes : ended (page_line (line_texts name ns mark)) ≡ left_in 8 name ++ number_columns ns 7 ++ (right_in 7 mark ++ (32 ∷ []) ++ (10 ∷ []))
-  unfolding ended page_line in_columns number_columns number_width
-  line_bytes =
-      rw (text_name, text_number 0 (omega arith), text_number 1 (omega arith), text_number 2 (omega arith), text_number 3 (omega arith), text_number 4 (omega arith), text_number 5 (omega arith), text_number 6 (omega arith), text_mark)
-      (simp append_assoc)
+pub row_bytes : (r : Row) → ended (row_line r) ≡ left_in 8 (name_text r) ++ number_columns (numbers_of r) ++ (right_in 7 (verdict_word r.verdict) ++ (32 ∷ []) ++ (10 ∷ []))
+unfolding row_line row_texts
+row_bytes r =
+    by_seven r
+    (λ ns. ended (page_line (line_texts (name_text r) ns (verdict_word r.verdict))) ≡ left_in 8 (name_text r) ++ number_columns ns ++ (right_in 7 (verdict_word r.verdict) ++ (32 ∷ []) ++ (10 ∷ [])))
+    (seven_bytes (name_text r) (verdict_word r.verdict))
 
 -- a name that its column does not cut
 pub left_short : (w : ℕ) (t : List ℕ) → length t ≤ w → left_in w t ≡ t ++ replicate (w - length t) 32
 unfolding left_in
 left_short w t h = rw (take_all w t h)
-
--- the room for one number more
-module _ (ns : List ℕ) where
-  columns_more : (k : ℕ) → length (number_columns ns (suc k)) ≡ length (number_columns ns k) + number_width k
-  unfolding number_columns
-  columns_more k = simp (length-append, length_right)
-
-  columns_le : (k m : ℕ) → k ≤ m → length (number_columns ns k) ≤ length (number_columns ns m)
-  columns_le k zero h = let z : k ≡ 0 = omega arith in rw z (omega arith)
-  columns_le k (suc m) h =
-      ⊎_elim
-      (λ (l : k ≤ m). omega (arith, columns_le k m l, columns_more m))
-      (λ (g : m < k). let z : k ≡ suc m = omega arith in rw z (omega arith))
-      (le_or_lt k m)
-
-  pub columns_whole : length (number_columns ns 7) ≡ 48
-  unfolding number_columns number_width
-  columns_whole = simp (length-append, length_right)
-
-  pub columns_room : (k : ℕ) → k < 7 → length (number_columns ns k) + number_width k ≤ 48
-  columns_room k h = omega (arith, columns_more k, columns_le (suc k) 7 (omega arith), columns_whole)
-
-pub seven_of : (r : Row) → length (numbers_of r) ≡ 7
-unfolding numbers_of load_numbers verdict_numbers
-seven_of r = by_verdict r.verdict
-  where
-    by_verdict : (v : Verdict) → length (load_numbers r.loads ++ verdict_numbers v) ≡ 7
-    by_verdict Within = refl
-    by_verdict (Over g a n) = refl
 
 -- ---- a line has one end
 
@@ -148,13 +114,13 @@ free_right : (w : ℕ) (t : List ℕ) → free 10 t ≡ true → free 10 (right_
 unfolding right_in
 free_right w t h = free-append 10 (replicate (w - length t) 32) (take w t) (free_spaces (w - length t)) (free-take w t h)
 
-free-line : (ts : List (List ℕ)) → ((k : ℕ) → k < 9 → free 10 (get_or ts k []) ≡ true) → free 10 (page_line ts) ≡ true
-unfolding page_line in_columns
-free-line ts h =
+free_line : (name mark : List ℕ) → free 10 name ≡ true → free 10 mark ≡ true → (a b c d e f g : ℕ) → free 10 (page_line (line_texts name (a ∷ b ∷ c ∷ d ∷ e ∷ f ∷ g ∷ []) mark)) ≡ true
+unfolding page_line in_columns line_texts
+free_line name mark h m a b c d e f g =
     let join = free-append 10 in
-    join _ _ (join _ _ (join _ _ (join _ _ (join _ _ (join _ _ (join _ _ (join _ _ (join _ _ (free_left 8 _ (h 0 (omega arith)))
-    (free_right 8 _ (h 1 (omega arith)))) (free_right 8 _ (h 2 (omega arith)))) (free_right 8 _ (h 3 (omega arith)))) (free_right 8 _ (h 4 (omega arith))))
-    (free_right 2 _ (h 5 (omega arith)))) (free_right 7 _ (h 6 (omega arith)))) (free_right 7 _ (h 7 (omega arith)))) (free_right 7 _ (h 8 (omega arith)))) (free_spaces 1)
+    let number = λ (w n : ℕ). free_right w (decimal n) (free-decimal 10 n (omega arith)) in
+    join _ _ (join _ _ (join _ _ (join _ _ (join _ _ (join _ _ (join _ _ (join _ _ (join _ _ (free_left 8 name h)
+    (number 8 a)) (number 8 b)) (number 8 c)) (number 8 d)) (number 2 e)) (number 7 f)) (number 7 g)) (free_right 7 mark m)) (free_spaces 1)
 
 pub free_head : free 10 head_line ≡ true
 unfolding head_line page_line in_columns left_in right_in head_text split cons_to free
@@ -162,12 +128,7 @@ free_head = refl
 
 pub free_row : (r : Row) → free 10 (name_text r) ≡ true → free 10 (row_line r) ≡ true
 unfolding row_line row_texts
-free_row r h = free-line (line_texts (name_text r) (numbers_of r) (verdict_word r.verdict)) text_free
-  where
-    text_free : (k : ℕ) → k < 9 → free 10 (get_or (line_texts (name_text r) (numbers_of r) (verdict_word r.verdict)) k []) ≡ true
-    text_free zero l = rw (text_name (name_text r) (numbers_of r) (verdict_word r.verdict) (seven_of r)) h
-    text_free (suc k) l =
-        ⊎_elim
-        (λ (g : k < 7). rw (text_number (name_text r) (numbers_of r) (verdict_word r.verdict) (seven_of r) k g) (free-decimal 10 _ (omega arith)))
-        (λ (g : 7 ≤ k). let e : k ≡ 7 = omega arith in rw (e, text_mark (name_text r) (numbers_of r) (verdict_word r.verdict) (seven_of r)) (free_mark r.verdict).0)
-        (lt_or_le k 7)
+free_row r h =
+    by_seven r
+    (λ ns. free 10 (page_line (line_texts (name_text r) ns (verdict_word r.verdict))) ≡ true)
+    (free_line (name_text r) (verdict_word r.verdict) h (free_mark r.verdict).0)

@@ -1,7 +1,7 @@
 -- A line of a page: columns without gaps between them, and one space at the end.
-use Rattle.std.specs.Prelude.{ℕ, zero, suc, ◌-◌, List, [], ◌∷◌, ◌++◌, map, ltb, length, get_or, take, replicate}
-use Rattle.site.specs.Choice.{pick}
+use Rattle.std.specs.Prelude.{ℕ, ◌-◌, List, [], ◌∷◌, ◌++◌, map, zip, length, get_or, take, replicate}
 use Rattle.judgement.specs.Verdicts.{verdict_word}
+use Rattle.output.specs.Writing.{each}
 use Rattle.text.specs.declared.Row.{Row}
 use Rattle.text.specs.Decimal.{decimal}
 use Rattle.text.specs.Line.{numbers_of, name_text}
@@ -45,14 +45,16 @@ row_texts r = line_texts (name_text r) (numbers_of r) (verdict_word r.verdict)
 unfoldable pub row_line : Row → List ℕ
 row_line r = page_line (row_texts r)
 
--- As the line is written: the width of the column of number k, a load, the region or an exceedance,
-unfoldable pub number_width : ℕ → ℕ
-number_width k = pick (ltb k 4) 8 (pick (ltb k 5) 2 7)
+-- As the line is written: the widths of the columns of the numbers, four loads, the region and two exceedances,
+abbrev pub number_widths : List ℕ
+number_widths = 8 ∷ 8 ∷ 8 ∷ 8 ∷ 2 ∷ 7 ∷ 7 ∷ []
 
--- and the first k of seven numbers in their columns.
-unfoldable pub number_columns : List ℕ → ℕ → List ℕ
-number_columns ns zero = []
-number_columns ns (suc k) = number_columns ns k ++ right_in (number_width k) (decimal (get_or ns k 0))
+-- and seven numbers, each in its column.
+abbrev pub in_column : ℕ × ℕ → List ℕ
+in_column p = right_in p.1 (decimal p.0)
+
+unfoldable pub number_columns : List ℕ → List ℕ
+number_columns ns = each in_column (zip ns number_widths)
 
 -- a line with its end
 unfoldable pub ended : List ℕ → List ℕ

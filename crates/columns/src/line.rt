@@ -2,7 +2,7 @@
 ghost use Rattle.std.specs.Prelude.{◌≡◌, [], ◌∷◌, ◌++◌, ◌+◌, ◌≤◌, length};
 ghost use Rattle.judgement.specs.Verdicts.{verdict_word};
 ghost use Rattle.output.specs.Writing.{Wrote, WroteIf};
-ghost use Rattle.columns.specs.PageLine.{head_line, left_in, right_in, number_width, number_columns, row_line, ended};
+ghost use Rattle.columns.specs.PageLine.{head_line, left_in, right_in, number_columns, row_line, ended};
 
 use crate::column::{put_number, put_spaces};
 use judgement::Verdict;
@@ -27,14 +27,11 @@ fn put_mark(out: &mut [u8], at: usize, v: Verdict) -> usize
     requires { at + 9 ≤ length out.old }
     ensures { Wrote out.old at (right_in 7 (verdict_word v) ++ (32 ∷ []) ++ (10 ∷ [])) out.new result × (result ≡ at + 9) }
 {
-    match v {
-        Verdict::Within => put_bytes(out, at, b" within \n"),
-        Verdict::Over {
-            region: _,
-            acid: _,
-            nutrient: _,
-        } => put_bytes(out, at, b"   over \n"),
-    }
+    let mark: &[u8] = match v {
+        Verdict::Within => b" within \n",
+        Verdict::Over { .. } => b"   over \n",
+    };
+    put_bytes(out, at, mark)
 }
 
 fn put_name(out: &mut [u8], at: usize, name: &[u8]) -> usize
@@ -45,31 +42,17 @@ fn put_name(out: &mut [u8], at: usize, name: &[u8]) -> usize
     put_spaces(out, a, 8 - name.len())
 }
 
-// How wide the column of number k is: a load, the region or an exceedance.
-#[tactic(auto, unfolding(crate::specs::PageLine::number_width))]
-fn number_width(k: usize) -> usize
-    ensures { result ≡ number_width k }
-{
-    if k < 4 {
-        return 8;
-    }
-    if k < 5 {
-        return 2;
-    }
-    7
-}
+// How wide the columns of the numbers are: the four loads, the region and the two exceedances.
+const WIDTHS: [usize; 7] = [8, 8, 8, 8, 2, 7, 7];
 
-#[tactic(auto, using(output::proofs::WritingLaws::nothing, crate::proofs::PageLineLaws::columns_room, crate::proofs::PageLineLaws::columns_whole), unfolding(crate::specs::PageLine::number_columns))]
+#[tactic(auto, using(output::proofs::WritingLaws::nothing), unfolding(output::specs::Writing::each))]
 fn put_numbers(out: &mut [u8], at: usize, ns: [u64; 7]) -> usize
     requires { at + 48 ≤ length out.old }
-    ensures { Wrote out.old at (number_columns ns 7) out.new result × (result ≡ at + 48) }
+    ensures { Wrote out.old at (number_columns ns) out.new result × (result ≡ at + 48) }
 {
     let mut o = at;
-    let mut i = 0;
-    while i < 7 {
-        let width = number_width(i);
-        o = put_number(out, o, width, ns[i]);
-        i += 1;
+    for (n, width) in ns.iter().zip(&WIDTHS) {
+        o = put_number(out, o, *width, *n);
     }
     o
 }
@@ -78,13 +61,9 @@ fn put_line(out: &mut [u8], at: usize, row: Row) -> usize
     requires { at + 65 ≤ length out.old }
     ensures { Wrote out.old at (ended (row_line row)) out.new result }
 {
-    let name = row.name;
-    let n = name_len(row);
-    let ns = numbers(row);
-    let v = row.verdict;
-    let a = put_name(out, at, &name[..n]);
-    let b = put_numbers(out, a, ns);
-    put_mark(out, b, v)
+    let a = put_name(out, at, &row.name[..name_len(row)]);
+    let b = put_numbers(out, a, numbers(row));
+    put_mark(out, b, row.verdict)
 }
 
 // Writes a row's line, and returns the index after it; where it does not fit, nothing is written.
@@ -92,10 +71,7 @@ fn put_line(out: &mut [u8], at: usize, row: Row) -> usize
 pub fn put_row(out: &mut [u8], at: usize, row: Row) -> usize
     ensures { WroteIf out.old at (ended (row_line row)) out.new result }
 {
-    if out.len() < at {
-        return at;
-    }
-    if out.len() - at < 65 {
+    if out.len().saturating_sub(at) < 65 {
         return at;
     }
     put_line(out, at, row)

@@ -6,7 +6,7 @@ use Rattle.std.proofs.lemmas.List.{length-replicate}
 use Rattle.std.proofs.lemmas.List.Edits.{sets, sets-eq}
 use Rattle.std.proofs.lemmas.Slice.{put_mid-paste}
 use borrow.Rule.Slice.PartMut.{put_mid}
-use Rattle.output.specs.Writing.{Wrote, write}
+use Rattle.output.specs.Writing.{write}
 use Rattle.columns.proofs.column.put_spaces.Goals as goal
 
 write_sets : (d : List ℕ) (at : ℕ) (xs : List ℕ) → write d at xs ≡ sets d at xs

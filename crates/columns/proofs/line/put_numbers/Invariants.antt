@@ -1,11 +1,18 @@
--- The first i numbers are in their columns.
-use Rattle.std.proofs.Common.{◌≡◌, ◌-◌, ◌≤◌, length}
-use Rattle.output.specs.Writing.{Wrote}
-use Rattle.columns.specs.PageLine.{number_columns}
+-- The columns that are left, written next, make the whole.
+use Rattle.std.proofs.Common.{◌≡◌, ℕ, ◌+◌, List, length}
+use Rattle.std.specs.Iterator.Adapters.{zip_first, zip_second}
+use Rattle.std.specs.List.{sum, zip}
+use Rattle.std.specs.Slice.Iter.{iter_rest}
+use Rattle.output.specs.Writing.{Wrote, each}
+use Rattle.columns.specs.PageLine.{in_column, number_columns}
 use Rattle.columns.proofs.line.put_numbers.Given as goal
 
-abbrev pub invariant-loop-i : goal.invariant-loop-i
-invariant-loop-i l = (l.i ≤ 7) × (length l.out ≡ length l.initial.out) × Wrote l.initial.out l.at (number_columns l.ns l.i) l.out l.o
-
-abbrev pub decreases-loop-i : goal.decreases-loop-i
-decreases-loop-i l = 7 - l.i
+abbrev pub invariant-loop-n : goal.invariant-loop-n
+invariant-loop-n l =
+    let ns = iter_rest (zip_first l.n-iterator) in
+    let ws = iter_rest (zip_second l.n-iterator) in
+    record {
+      paired : length ns ≡ length ws;
+      room : l.o + sum ws ≡ l.at + 48;
+      left : (e : List ℕ) (r : ℕ) → Wrote l.out l.o (each in_column (zip ns ws)) e r → Wrote l.initial.out l.at (number_columns l.fn.ns) e r;
+    }
