@@ -1,9 +1,10 @@
 -- What is read back from the columns of a line.
 use Prim.Native.Nat.{ℕ, zero, suc, ◌-◌, ◌≤◌}
 use mathlib.Core.Path.{◌≡◌, refl, sym, ap, ◌∙◌}
-use mathlib.Core.Bool.{Bool, true, false}
+use mathlib.Core.Bool.{true}
 use mathlib.Core.List.{List, [], ◌∷◌, ◌++◌, append_assoc, append-nil, map}
-use lib.Dec.{eqb}
+use Rattle.std.specs.Prelude.{◌==◌, not}
+use Rattle.std.proofs.lemmas.List.Elements.{filter-append}
 use lib.ListN.{length, take, replicate}
 use lib.Seq.{take_all, take-append_seam, drop-append_seam}
 use Rattle.output.specs.Writing.{each}
@@ -15,22 +16,9 @@ use Rattle.columns.proofs.PageLineLaws.{length_left, length_right}
 
 -- ---- spaces dropped
 
-unspaced_drops : (x : ℕ) (xs : List ℕ) → eqb x 32 ≡ true → unspaced (x ∷ xs) ≡ unspaced xs
-unfolding unspaced
-unspaced_drops x xs e = rw (e, unspaced)
-
-unspaced_keeps : (x : ℕ) (xs : List ℕ) → eqb x 32 ≡ false → unspaced (x ∷ xs) ≡ x ∷ unspaced xs
-unfolding unspaced
-unspaced_keeps x xs e = rw (e, unspaced)
-
 unspaced-append : (xs ys : List ℕ) → unspaced (xs ++ ys) ≡ unspaced xs ++ unspaced ys
 unfolding unspaced
-unspaced-append [] ys = refl
-unspaced-append (x ∷ xs) ys = go (eqb x 32) refl (unspaced-append xs ys)
-  where
-    go : (b : Bool) → eqb x 32 ≡ b → unspaced (xs ++ ys) ≡ unspaced xs ++ unspaced ys → unspaced (x ∷ (xs ++ ys)) ≡ unspaced (x ∷ xs) ++ unspaced ys
-    go true e ih = rw (unspaced_drops x xs e, unspaced_drops x (xs ++ ys) e, ih)
-    go false e ih = rw (unspaced_keeps x xs e, unspaced_keeps x (xs ++ ys) e, ih)
+unspaced-append xs ys = filter-append (λ x. not (x == 32)) xs ys
 
 unspaced_spaces : (n : ℕ) → unspaced (replicate n 32) ≡ []
 unfolding unspaced
@@ -42,7 +30,7 @@ unfolding unspaced
 unspaced-free [] h = refl
 unspaced-free (x ∷ xs) h =
     let f = free_false 32 x xs h in
-    unspaced_keeps x xs f.0 ∙ ap (λ (l : List ℕ). x ∷ l) (unspaced-free xs f.1)
+    rw f.0 (ap (λ (l : List ℕ). x ∷ l) (unspaced-free xs f.1))
 
 -- a text that its column does not cut
 pub record Whole (w : ℕ) (t : List ℕ) : Type 0 where

@@ -1,5 +1,5 @@
 -- A line of a page, read by its columns.
-use Rattle.std.specs.Prelude.{ℕ, true, false, List, [], ◌∷◌, map, eqb, take, drop}
+use Rattle.std.specs.Prelude.{ℕ, ◌==◌, not, List, [], ◌∷◌, map, filter, take, drop}
 
 -- a text cut into pieces of the widths ws
 unfoldable pub cut : List ℕ → List ℕ → List (List ℕ)
@@ -8,8 +8,7 @@ cut (w ∷ ws) l = take w l ∷ cut ws (drop w l)
 
 -- a text without its spaces
 unfoldable pub unspaced : List ℕ → List ℕ
-unspaced [] = []
-unspaced (x ∷ xs) = let r = unspaced xs in elim (eqb x 32) [ true ↦ r | false ↦ x ∷ r ]
+unspaced l = filter (λ x. not (x == 32)) l
 
 -- name, the four loads, region, the two exceedances, verdict
 abbrev pub column_widths : List ℕ

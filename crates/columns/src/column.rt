@@ -16,7 +16,6 @@ pub fn put_spaces(out: &mut [u8], at: usize, count: usize) -> usize
 }
 
 // A number, aligned right and cut to its first digits where the column is narrower.
-#[tactic(auto, using(output::proofs::WritingLaws::in_front, text::proofs::DecimalLaws::length_u64))]
 pub fn put_number(out: &mut [u8], at: usize, width: usize, n: u64) -> usize
     requires { at + width ≤ length out.old }
     ensures { Wrote out.old at (right_in width (decimal n)) out.new result × (result ≡ at + width) }

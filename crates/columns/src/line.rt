@@ -45,7 +45,6 @@ fn put_name(out: &mut [u8], at: usize, name: &[u8]) -> usize
 // How wide the columns of the numbers are: the four loads, the region and the two exceedances.
 const WIDTHS: [usize; 7] = [8, 8, 8, 8, 2, 7, 7];
 
-#[tactic(auto, using(output::proofs::WritingLaws::nothing), unfolding(output::specs::Writing::each))]
 fn put_numbers(out: &mut [u8], at: usize, ns: [u64; 7]) -> usize
     requires { at + 48 ≤ length out.old }
     ensures { Wrote out.old at (number_columns ns) out.new result × (result ≡ at + 48) }
@@ -67,7 +66,7 @@ fn put_line(out: &mut [u8], at: usize, row: Row) -> usize
 }
 
 // Writes a row's line, and returns the index after it; where it does not fit, nothing is written.
-#[tactic(auto, using(output::proofs::WritingLaws::wrote_none, output::proofs::WritingLaws::wrote_some, crate::proofs::PageLineLaws::length_row))]
+#[tactic(auto, using(crate::proofs::PageLineLaws::length_row))]
 pub fn put_row(out: &mut [u8], at: usize, row: Row) -> usize
     ensures { WroteIf out.old at (ended (row_line row)) out.new result }
 {
