@@ -67,7 +67,7 @@ head_bytes = refl
 -- ---- the texts of a line
 
 -- what holds of every seven numbers holds of a row's
-pub by_seven : (r : Row) (P : List ℕ → Type 0) → ((a b c d e f g : ℕ) → P (a ∷ b ∷ c ∷ d ∷ e ∷ f ∷ g ∷ [])) → P (numbers_of r)
+by_seven : (r : Row) (P : List ℕ → Type 0) → ((a b c d e f g : ℕ) → P (a ∷ b ∷ c ∷ d ∷ e ∷ f ∷ g ∷ [])) → P (numbers_of r)
 unfolding numbers_of load_numbers verdict_numbers
 by_seven r P h = by_verdict r.verdict
   where

@@ -1,23 +1,17 @@
 -- From the sites of a file to what its pages say.
-use Prim.Native.Nat.{ℕ, suc, ◌+◌, ◌*◌, ◌-◌, ◌/◌, ◌%◌, ◌≤◌, ◌<◌}
-use mathlib.Core.Path.{◌≡◌, refl, sym, ap, ◌∙◌}
+use Prim.Native.Nat.{ℕ, ◌+◌, ◌*◌, ◌-◌, ◌/◌, ◌%◌, ◌≤◌, ◌<◌}
+use mathlib.Core.Path.{◌≡◌, refl, ap, ◌∙◌}
 use mathlib.Core.Bool.{true}
-use mathlib.Core.List.{List, [], ◌∷◌, ◌++◌, append_assoc, append-nil, map}
+use mathlib.Core.List.{List, [], ◌∷◌, ◌++◌, map}
 use mathlib.Core.Logic.{⊎_elim}
 use native.Mathlib.Omega.{arith}
-use native.Mathlib.Numerals.{add-one}
-use lib.ListN.{length, get_or, take, length-append, length-map, get_or-append}
-use lib.Seq.{get_or-append_seam, take-suc}
+use lib.ListN.{length, get_or, length-append, length-map, get_or-append}
+use lib.Seq.{get_or-append_seam}
 use Rattle.site.specs.declared.Site.{Site}
-use Rattle.site.specs.declared.Rule.TheVariants.{BufferShort}
 use Rattle.output.specs.declared.Written.{Written}
-use Rattle.output.specs.declared.Written.TheVariants.{Count, Refused}
 use Rattle.output.specs.Output.{held}
 use Rattle.text.specs.TextAnswer.{text_answer}
 use Rattle.site.proofs.Tests.{lt_or_le}
-use Rattle.output.specs.Writing.{Wrote, WroteIf, each}
-use Rattle.output.proofs.EachLaws.{each_append}
-use Rattle.output.proofs.WritingLaws.{nothing, then}
 use Rattle.judgement.proofs.AtSites.{word_tells}
 use Rattle.field.specs.Field.{blank_site}
 use Rattle.field.specs.Clean.{AllBytes}
@@ -30,10 +24,13 @@ use Rattle.text.specs.Line.{blank_row}
 use Rattle.text.specs.Words.{split, line_at, free}
 use Rattle.text.specs.Marks.{Plain}
 use Rattle.text.proofs.WordLaws.{split-each}
-use Rattle.text.proofs.TextAnswers.{answered, text_refused, text_printed}
-use Rattle.listing.specs.Rows.{row_of}
+use Rattle.text.proofs.TextAnswers.{answered}
+use Rattle.site.specs.Ranges.{most_records}
+use Rattle.record.specs.declared.Outcome.TheVariants.{Accepted}
+use Rattle.listing.specs.declared.Walked.{Walked}
+use Rattle.listing.specs.Rows.{row_of, walked_of}
 use Rattle.listing.specs.PrintedDemand3.{TextSays}
-use Rattle.listing.proofs.ListLaws.{FileClauses, filed_sites}
+use Rattle.listing.proofs.ListLaws.{FileClauses, filed_sites, found_sites}
 use Rattle.site.proofs.MapLaws.{map_id}
 use Rattle.listing.proofs.Demand3Laws.{passed, row_at, plain}
 use Rattle.listing.proofs.ReportLaws.{marks_stay}
@@ -41,8 +38,9 @@ use Rattle.columns.specs.PageLine.{page_line, head_line, row_line, ended}
 use Rattle.columns.specs.LineRead.{columns_of}
 use Rattle.pages.specs.Pages.{lines_to, page_count, pages, pages_of, most_pages}
 use Rattle.pages.specs.PagesDemand3.{verdict_column, shown, site_line, PagesSay, PagesNeverWorse}
-use Rattle.columns.proofs.PageLineLaws.{length_page_line, last_space, length-ended, length_head, length_row, free_head, free_row}
-use Rattle.pages.proofs.PageLaws.{length_lines, header_at, site_at_lem, lines_start, lines_under}
+use Rattle.columns.proofs.PageLineLaws.{length_page_line, last_space, free_head, free_row}
+use Rattle.pages.proofs.PageLaws.{length_lines, header_at, site_at_lem}
+use Rattle.pages.proofs.WrittenPages.{length-pages}
 use Rattle.pages.proofs.SiteColumns.{row_shown, line_shows}
 
 -- all lines of the pages
@@ -74,80 +72,6 @@ module _ (rs : List Row) where
   space_lines : (i : ℕ) → i < length rs + page_count (length rs) → get_or (get_or (all_lines rs) i []) 63 0 ≡ 32
   unfolding head_line row_line
   space_lines = each_line (λ l. get_or l 63 0 ≡ 32) (last_space _) (λ k h. last_space _)
-
--- so the pages have 65 bytes a line
-length-each : (ls : List (List ℕ)) → ((i : ℕ) → i < length ls → length (get_or ls i []) ≡ 64) → length (each ended ls) ≡ 65 * length ls
-unfolding each
-length-each [] h = refl
-length-each (l ∷ ls) h =
-    length-append (ended l) (each ended ls)
-    ∙ omega (arith, length-ended l, h 0 (omega arith), length-each ls (λ i g. h (suc i) (omega arith)))
-
-length-pages : (rs : List Row) → length (pages rs) ≡ 65 * (length rs + page_count (length rs))
-unfolding pages
-length-pages rs =
-    length-each (all_lines rs) (λ i h. wide_lines rs i (omega (arith, length_lines rs)))
-    ∙ omega (arith, length_lines rs)
-
--- ---- one row more, as it is written
-
--- d with the pages of rs and, where the next row starts a page, its header
-pub record Headed (d : List ℕ) (rs : List Row) (out : List ℕ) (o : ℕ) : Type 0 where
-  pub before : List (List ℕ)
-  pub wrote : Wrote d 0 (each ended before) out o
-  pub next : (r : Row) → all_lines (rs ++ (r ∷ [])) ≡ before ++ (row_line r ∷ [])
-
-pub nothing_paged : (d : List ℕ) → Wrote d 0 (pages []) d 0
-unfolding pages lines_to each
-nothing_paged d = nothing d 0
-
-snoc_count : (rs : List Row) (r : Row) → page_count (length (rs ++ (r ∷ []))) ≡ page_count (length rs + 1)
-snoc_count rs r = ap page_count (length-append rs (r ∷ []))
-
-each_snoc : (ls : List (List ℕ)) (l : List ℕ) → each ended (ls ++ (l ∷ [])) ≡ each ended ls ++ ended l
-unfolding each
-each_snoc ls l = each_append ended ls (l ∷ []) ∙ ap (λ (t : List ℕ). each ended ls ++ t) (append-nil (ended l))
-
-module _ {d : List ℕ} (rs : List Row) {out : List ℕ} {o : ℕ} (w : Wrote d 0 (pages rs) out o) where
-  pub headed_start : {e : List ℕ} {q : ℕ} → length rs % 59 ≡ 0 → 65 * (length rs + 1 + page_count (length rs)) ≤ length out → WroteIf out o (ended head_line) e q → Headed d rs e q
-  unfolding pages
-  headed_start z room v = record {
-    before = all_lines rs ++ (head_line ∷ []);
-    wrote = rw (each_snoc (all_lines rs) head_line) (then w (v.fits (omega (arith, w.next, length-pages rs, length_head))));
-    next = λ r. ap (lines_to (rs ++ (r ∷ []))) (snoc_count rs r) ∙ lines_start rs r z ∙ sym (append_assoc (all_lines rs) (head_line ∷ []) (row_line r ∷ []));
-  }
-
-  pub headed_under : (length rs % 59 ≡ 0 → ⊥) → Headed d rs out o
-  unfolding pages
-  headed_under z = record { before = all_lines rs; wrote = w; next = λ r. ap (lines_to (rs ++ (r ∷ []))) (snoc_count rs r) ∙ lines_under rs r z }
-
-module _ {d : List ℕ} {rs : List Row} {out : List ℕ} {o : ℕ} (x : Headed d rs out o) (r : Row) where
-  row_is : pages (rs ++ (r ∷ [])) ≡ each ended x.before ++ ended (row_line r)
-  unfolding pages
-  row_is = ap (each ended) (x.next r) ∙ each_snoc x.before (row_line r)
-
-  -- where its line ends
-  row_end : o + 65 ≡ 65 * (length rs + 1 + page_count (length rs + 1))
-  row_end =
-      let n = length-append rs (r ∷ []) in
-      let whole = sym (length-pages (rs ++ (r ∷ []))) ∙ ap length row_is ∙ length-append (each ended x.before) (ended (row_line r)) in
-      omega (arith, whole, length_row r, x.wrote.next, n, snoc_count rs r)
-
-  pub headed_row : {e : List ℕ} {q : ℕ} → 65 * (length rs + 1 + page_count (length rs + 1)) ≤ length out → WroteIf out o (ended (row_line r)) e q → Wrote d 0 (pages (rs ++ (r ∷ []))) e q
-  headed_row room v = rw row_is (then x.wrote (v.fits (omega (arith, row_end, length_row r))))
-
--- the answer and the buffer, where the pages do not fit and where they are written
-module _ (rs : List Row) {n : ℕ} (is : length rs ≡ n) where
-  pub pages_short : {d : List ℕ} → length d < 65 * (n + page_count n) → (Refused BufferShort 0 ≡ text_answer (pages rs) d) × (d ≡ held (pages rs) d)
-  pages_short {d} l = let a = text_refused {most = length (pages rs)} (pages rs) d (omega (arith, length-pages rs)) (omega arith) in (a.answer, a.buffer)
-
-  pub pages_put : {d e : List ℕ} {r : ℕ} → Wrote d 0 (pages rs) e r → 65 * (n + page_count n) ≤ length d → (Count r ≡ text_answer (pages rs) d) × (e ≡ held (pages rs) d)
-  pages_put w l = let a = text_printed {most = length (pages rs)} (pages rs) w (omega (arith, length-pages rs)) (omega arith) in (a.answer, a.buffer)
-
--- what an array has past its end does not matter
-pub rows_more : (rs : List Row) (i : ℕ) (past : Row) → i < length rs → {d e : List ℕ} {q : ℕ} → Wrote d 0 (pages (take i rs ++ (get_or rs i past ∷ []))) e q
-    → Wrote d 0 (pages (take (i + 1) rs)) e q
-rows_more rs i past h w = rw (add-one, take-suc rs i past) w
 
 -- ---- the pages, cut at each 0A, are their lines
 
@@ -211,6 +135,10 @@ pub pages_stay : (f x g y : List ℕ) → TextSays PagesSay f x → TextSays Pag
 pages_stay f x g y df dg = marks_stay (λ (k : ℕ) (t : List ℕ). verdict_column (site_line k t)) f x g y (λ ss h. (df ss h).says) (λ ss h. (dg ss h).says)
 
 -- ---- the clauses of the call
+
+-- the walk finds at most 500 rows
+pub few : (f : List ℕ) (w : Walked) → w ≡ walked_of (contents f) → w.outcome ≡ Accepted → w.count ≤ most_records
+few f w is e = let x = found_sites (contents f) is e in omega (arith, x.counted, (sites_checked f x.ss x.holds).0)
 
 module _ (f : List ℕ) (bytes : AllBytes f) (d : List ℕ) (ss : List Site) (h : contents f ≡ good ss) where
   most_is : length (pages_of ss) ≤ most_pages

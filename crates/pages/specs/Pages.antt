@@ -1,5 +1,6 @@
 -- The listing as pages of 60 lines: under the header of each stand 59 sites, on the last what is left.
-use Rattle.std.specs.Prelude.{ℕ, zero, suc, ◌+◌, ◌*◌, ◌/◌, List, [], ◌∷◌, ◌++◌, map, length, take, drop}
+use Rattle.std.specs.Prelude.{ℕ, zero, suc, ◌+◌, ◌*◌, List, [], ◌∷◌, ◌++◌, map, length, take, drop}
+use Rattle.std.specs.Int.{div_ceil}
 use Rattle.site.specs.Ranges.{most_records}
 use Rattle.site.specs.declared.Site.{Site}
 use Rattle.output.specs.Writing.{each}
@@ -18,7 +19,7 @@ lines_to rs (suc n) = lines_to rs n ++ lines_on rs n
 
 -- how many pages n sites take
 abbrev pub page_count : ℕ → ℕ
-page_count n = (n + 58) / 59
+page_count n = div_ceil n 59
 
 unfoldable pub pages : List Row → List ℕ
 pages rs = each ended (lines_to rs (page_count (length rs)))

@@ -1,5 +1,6 @@
 // The pages of a file into a lent buffer.
-ghost use Rattle.std.specs.Prelude.{◌≡◌, ◌≤◌, length, take};
+ghost use Rattle.std.specs.Prelude.{◌≡◌, ◌≤◌, length};
+ghost use Rattle.site.specs.Ranges.{most_records};
 ghost use Rattle.output.specs.Output.{written_numbers, held};
 ghost use Rattle.text.specs.TextAnswer.{text_answer};
 ghost use Rattle.record.specs.File.{contents};
@@ -9,35 +10,34 @@ ghost use Rattle.pages.specs.Pages.{pages, pages_of, most_pages};
 ghost use Rattle.pages.specs.PagesDemand3.{PagesSay};
 
 use columns::{put_header, put_row};
-use listing::{Walked, walk_file};
+use listing::walk_file;
 use output::Written;
 use record::Outcome;
 use site::Rule;
+use text::Row;
 
-// Writes the pages of the rows that a walk has found. A buffer that is too short for all of them stays as it is.
-fn put_pages(out: &mut [u8], walked: Walked) -> Written
-    requires { (walked.count ≤ 500) × (walked.count ≤ length walked.rows) }
-    ensures { (result ≡ text_answer (pages (take walked.count walked.rows)) out.old) × (out.new ≡ held (pages (take walked.count walked.rows)) out.old) }
+// Writes the pages of rows: under the header of each stand 59, on the last what is left. A buffer that is too short for all of them stays as it is.
+fn put_pages(out: &mut [u8], rows: &[Row]) -> Written
+    requires { length rows.now ≤ most_records }
+    ensures { (result ≡ text_answer (pages rows.now) out.old) × (out.new ≡ held (pages rows.now) out.old) }
 {
-    let count = walked.count;
-    let need = 65 * (count + (count + 58) / 59);
+    let need = 65 * (rows.len() + rows.len().div_ceil(59));
     if out.len() < need {
         let rule = Rule::BufferShort;
         return Written::Refused { rule, at: 0 };
     }
     let mut o = 0;
-    let mut i = 0;
-    while i < count {
-        if i % 59 == 0 {
-            o = put_header(out, o);
+    for page in rows.chunks(59) {
+        o = put_header(out, o);
+        for row in page {
+            o = put_row(out, o, *row);
         }
-        o = put_row(out, o, walked.rows[i]);
-        i += 1;
     }
     Written::Count(o)
 }
 
 // Nothing is written before the last record is checked and all pages are known to fit.
+#[tactic(auto, using(crate::proofs::PagesLaws::few))]
 pub fn list_pages(file: &[u8], out: &mut [u8]) -> Written
     ensures answer { result ≡ file_answer pages_of (contents file.now) out.old }
     ensures buffer { out.new ≡ file_held pages_of (contents file.now) out.old }
@@ -49,6 +49,6 @@ pub fn list_pages(file: &[u8], out: &mut [u8]) -> Written
     let o = w.outcome;
     match o {
         Outcome::Refused { rule, at } => Written::Refused { rule, at },
-        Outcome::Accepted => put_pages(out, w),
+        Outcome::Accepted => put_pages(out, &w.rows[..w.count]),
     }
 }

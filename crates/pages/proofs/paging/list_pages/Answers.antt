@@ -1,20 +1,10 @@
-use Rattle.std.proofs.Common.{length, ap, arith}
-use Rattle.std.proofs.Math.ListN.{length-map, length-take}
+use Rattle.std.proofs.Common.{arith}
 use Rattle.record.specs.File.{contents}
-use Rattle.record.proofs.SiteFile.{sites_checked}
-use Rattle.listing.specs.Rows.{row_of}
 use Rattle.listing.proofs.ListLaws.{found_sites, found_fault, filed_fault}
 use Rattle.pages.specs.Pages.{pages_of, most_pages}
 use Rattle.pages.specs.PagesDemand3.{PagesSay}
 use Rattle.pages.proofs.PagesLaws.{paged}
 use Rattle.pages.proofs.paging.list_pages.Goals as goal
-
-pub put_pages-requires : goal.put_pages-requires
-put_pages-requires c =
-    let f = c.args.file.now in
-    let w = c.walk_file-w in
-    let x = found_sites (contents f) w.ensures.answer c.in-Accepted.is in
-    omega (arith, x.counted, ap length x.rows, length-map x.ss row_of, length-take w.result.count w.result.rows, (sites_checked f x.ss x.holds).0)
 
 pub returns-in-Refused : goal.returns-in-Refused
 returns-in-Refused c =

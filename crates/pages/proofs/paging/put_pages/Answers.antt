@@ -1,37 +1,63 @@
--- The pages of the first i rows are written.
-use Rattle.std.proofs.Common.{◌≡◌, length, take, refl, arith}
-use Rattle.std.proofs.Math.Seq.{length-take-le}
-use Rattle.output.proofs.WritingLaws.{kept}
-use Rattle.pages.proofs.PagesLaws.{nothing_paged, Headed, headed_start, headed_under, headed_row, rows_more, pages_short, pages_put}
+-- The pages of the rows, a page a turn.
+use Rattle.std.proofs.Common.{◌≡◌, ◌+◌, ◌*◌, ◌<◌, [], ◌∷◌, ◌++◌, length, take, take_all, ap, ◌∙◌, length-take-le, length-drop, arith}
+use Rattle.std.proofs.lemmas.List.{length_push}
+use Rattle.output.specs.Writing.{each}
+use Rattle.output.proofs.WritingLaws.{nothing, then}
+use Rattle.columns.proofs.PageLineLaws.{length_head, length_row}
+use Rattle.pages.specs.Pages.{pages, page_count, lines_to}
+use Rattle.pages.proofs.WrittenPages.{chunk, rows_more, page_more, length_rows, length_to_page, pages_short, pages_put}
 use Rattle.pages.proofs.paging.put_pages.Goals as goal
-use Rattle.pages.proofs.paging.put_pages.Goals.{then-i-eq0, else-i-eq0}
 
 pub returns-then-out-need : goal.returns-then-out-need
-returns-then-out-need c =
-    let w = c.args.walked in
-    pages_short (take w.count w.rows) (length-take-le w.count w.rows (omega arith)) (omega arith)
+returns-then-out-need c = pages_short c.args.rows.now (omega arith)
 
-pub loop-i-init : goal.loop-i-init
-loop-i-init c = (refl, omega arith, refl, nothing_paged _)
+pub loop-page-init : goal.loop-page-init
+unfolding lines_to each
+loop-page-init c = record { size = cc; left = cc; needed = omega arith; pages = nothing _ 0 }
 
-pub loop-i-preserved : goal.loop-i-preserved
-loop-i-preserved c =
-    let w = c.args.walked in
-    let l = c.loop-i in
-    let rs = take l.i w.rows in
-    let n : length rs ≡ l.i = length-take-le l.i w.rows (omega arith) in
-    -- the header stands where the row starts a page
-    let x : Headed c.args.out.now rs c.if-i-eq0.out c.if-i-eq0.o =
-    elim c.if-i-eq0.branch [
-      | then-i-eq0 t ↦ rw (t.out-is, t.o-is) (headed_start rs l.invariant.3 (omega arith) (omega arith) t.put_header-o.ensures)
-      | else-i-eq0 f ↦ rw (f.out-is, f.o-is) (headed_under rs l.invariant.3 (λ z. omega arith))
-    ] in
-    let r = headed_row x _ (omega (arith, kept x.wrote)) c.put_row-o.ensures in
-    (omega arith, omega arith, kept r, rows_more w.rows l.i _ (omega arith) r)
+pub loop-row-init : goal.loop-row-init
+unfolding each
+loop-row-init c = nothing _ _
+
+pub loop-row-preserved : goal.loop-row-preserved
+loop-row-preserved c =
+    let rows = c.args.rows.now in
+    let page = c.in-Some.page.now in
+    let i = c.loop-row.row-index in
+    let n = length c.loop-page.yielded in
+    let p = c.loop-page.invariant in
+    let s = c.in-Some.ensures.steps in
+    let x = chunk rows n p.left s.1.0 (rw p.size at s.1.1) s.1.2 in
+    let h = c.put_header-o.ensures.fits (omega (arith, p.pages.next, length_to_page rows n, length_head, x.more)) in
+    let inside : i < length page = omega arith in
+    let used = length-take-le i page (omega arith) in
+    let w = c.put_row-o.ensures.fits (omega (arith, p.pages.next, length_to_page rows n, length_head, h.next, c.loop-row.invariant.next, length_rows (take i page), length_row, x.more, x.within)) in
+    rw (← rows_more) at (then c.loop-row.invariant w)
+
+pub loop-page-preserved : goal.loop-page-preserved
+loop-page-preserved c =
+    let rows = c.args.rows.now in
+    let page = c.in-Some.page.now in
+    let n = length c.loop-page.yielded in
+    let p = c.loop-page.invariant in
+    let s = c.in-Some.ensures.steps in
+    let x = chunk rows n p.left s.1.0 (rw p.size at s.1.1) s.1.2 in
+    let h = c.put_header-o.ensures.fits (omega (arith, p.pages.next, length_to_page rows n, length_head, x.more)) in
+    let whole = rw (take_all c.loop-row.row-index page (omega arith)) at c.loop-row.invariant in
+    let next : length (c.loop-page.yielded ++ c.in-Some.page ∷ []) ≡ n + 1 = length_push _ _ in
+    record {
+      size = s.0 ∙ p.size;
+      left = rw next x.left;
+      needed = rw next (omega (arith, x.more));
+      pages = rw (next, page_more rows n, ← x.page) (then (then p.pages h) whole);
+    }
 
 pub returns : goal.returns
+unfolding pages
 returns c =
-    let w = c.args.walked in
-    let l = c.loop-i in
-    let e : l.i ≡ w.count = omega arith in
-    pages_put (take w.count w.rows) (length-take-le w.count w.rows (omega arith)) (rw e at l.invariant.3) (omega arith)
+    let rows = c.args.rows.now in
+    let n = length c.loop-page.yielded in
+    let p = c.loop-page.invariant in
+    let none = c.in-None.ensures.steps.1.0 in
+    let all : n ≡ page_count (length rows) = omega (arith, none, p.needed, ap length p.left, length-drop (59 * n) rows) in
+    pages_put rows (rw all at p.pages) (omega arith)
