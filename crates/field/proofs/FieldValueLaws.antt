@@ -5,7 +5,7 @@ use Prim.Native.Nat.{ℕ, ◌*◌, ◌≤◌}
 use native.Mathlib.Omega.{arith}
 use lib.ListN.{length, take, length-take, length-map}
 use Rattle.site.specs.declared.Site.{Site}
-use Rattle.site.specs.declared.Checked.TheVariants.{Passed}
+use Rattle.std.specs.Prelude.{Ok}
 use Rattle.site.specs.Values.{item_count, count_rule}
 use Rattle.site.proofs.LengthLaws.{count_parts}
 use Rattle.field.specs.Field.{entries_bytes}
@@ -13,24 +13,24 @@ use Rattle.field.specs.Clean.{Sized}
 use Rattle.field.proofs.EntryLaws.{length_entries}
 
 module _ (s : Site) (z : Sized s) where
-  module _ (c : count_rule 1 s ≡ Passed) where
-    pub name_counts : (1 ≤ s.name_len) × (s.name_len ≤ 8)
+  module _ (c : count_rule 1 s ≡ Ok tt) where
+    pub name_counts : (1 ≤ s.name.len) × (s.name.len ≤ 8)
     unfolding item_count
     name_counts = count_parts 1 s c
 
-    pub name_long : length (take s.name_len s.name) ≡ s.name_len
+    pub name_long : length (take s.name.len s.name.bytes) ≡ s.name.len
     name_long = simp length-take (omega (arith, z.name, name_counts))
 
-  module _ (c : count_rule 7 s ≡ Passed) where
-    pub stand_counts : (1 ≤ s.entries) × (s.entries ≤ 4)
+  module _ (c : count_rule 7 s ≡ Ok tt) where
+    pub stand_counts : (1 ≤ s.stand.count) × (s.stand.count ≤ 4)
     unfolding item_count
     stand_counts = count_parts 7 s c
 
-    pub stand_long : length (take s.entries s.stand) ≡ s.entries
+    pub stand_long : length (take s.stand.count s.stand.entries) ≡ s.stand.count
     stand_long = simp length-take (omega (arith, z.stand, stand_counts))
 
-    pub bytes_long : length (entries_bytes (take s.entries s.stand)) ≡ 4 * s.entries
-    bytes_long = length_entries (take s.entries s.stand) ∙ ap (λ (k : ℕ). 4 * k) stand_long
+    pub bytes_long : length (entries_bytes (take s.stand.count s.stand.entries)) ≡ 4 * s.stand.count
+    bytes_long = length_entries (take s.stand.count s.stand.entries) ∙ ap (λ (k : ℕ). 4 * k) stand_long
 
 -- the length of an array of structs in a struct: what owning the struct tells stands at a `map`
 pub unmapped : (X Y : Type 0) (f : X → Y) (l : List X) (n : ℕ) → length (map f l) ≡ n → length l ≡ n

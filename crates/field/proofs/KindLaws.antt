@@ -7,8 +7,8 @@ use native.Mathlib.Omega.{arith}
 use lib.ListN.{length, get_or}
 use Rattle.site.specs.declared.Rule.TheVariants.{BadLength}
 use Rattle.site.proofs.Passing.{pass_then}
-use Rattle.site.specs.declared.Checked.{Checked}
-use Rattle.site.specs.declared.Checked.TheVariants.{Passed}
+use Rattle.site.specs.Refusal.{Checked}
+use Rattle.std.specs.Prelude.{Ok}
 use Rattle.numbers.specs.TwoBytes.{word_at, word_bytes}
 use Rattle.site.specs.Bytes.{tabulate}
 use Rattle.field.specs.Clean.{AllBytes}
@@ -44,18 +44,18 @@ module _ (v : List ℕ) where
 
 module _ {A : Type 0} (K : Kind A) where
   -- what a field that passed says
-  pub parts_passed : (t : ℕ) (v : List ℕ) (x : A) → field_rule K t v x ≡ Passed → (K.permitted t (length v) ≡ true) × (K.rule t (K.store t v x) ≡ Passed)
+  pub parts_passed : (t : ℕ) (v : List ℕ) (x : A) → field_rule K t v x ≡ Ok tt → (K.permitted t (length v) ≡ true) × (K.rule t (K.store t v x) ≡ Ok tt)
   unfolding field_rule
   parts_passed t v x e = pass_then (K.permitted t (length v)) BadLength (K.rule t (K.store t v x)) e
 
   -- what the field t makes of a value, and other fields leave
   pub record Made (P : A → Type 0) (t : ℕ) : Type 0 where
-    pub own : (v : List ℕ) (x : A) → field_rule K t v x ≡ Passed → P (K.store t v x)
+    pub own : (v : List ℕ) (x : A) → field_rule K t v x ≡ Ok tt → P (K.store t v x)
     pub other : (u : ℕ) (v : List ℕ) (x : A) → (u ≡ t → ⊥) → P x → P (K.store u v x)
 
   -- the field t is written as it was stored, and other fields leave it
   pub record Kept (t : ℕ) : Type 0 where
-    pub own : (v : List ℕ) (x : A) → field_rule K t v x ≡ Passed → AllBytes v → K.bytes t (K.store t v x) ≡ v
+    pub own : (v : List ℕ) (x : A) → field_rule K t v x ≡ Ok tt → AllBytes v → K.bytes t (K.store t v x) ≡ v
     pub other : (u : ℕ) (v : List ℕ) (x : A) → (u ≡ t → ⊥) → K.bytes t (K.store u v x) ≡ K.bytes t x
 
   -- ---- the field t holds a part of the value: how it is made from bytes, its own bytes, and its rules 8 to 10
@@ -74,13 +74,13 @@ module _ {A : Type 0} (K : Kind A) where
 
   pub record OneItem (t : ℕ) : Type 0 where
     pub kept : Kept t
-    pub rule : (u : ℕ) (v : List ℕ) (x : A) → (u ≡ t → ⊥) → K.rule t x ≡ Passed → K.rule t (K.store u v x) ≡ Passed
-    pub again : (s : A) → K.rule t s ≡ Passed → (x : A) → field_rule K t (K.bytes t s) x ≡ Passed
+    pub rule : (u : ℕ) (v : List ℕ) (x : A) → (u ≡ t → ⊥) → K.rule t x ≡ Ok tt → K.rule t (K.store u v x) ≡ Ok tt
+    pub again : (s : A) → K.rule t s ≡ Ok tt → (x : A) → field_rule K t (K.bytes t s) x ≡ Ok tt
 
   module _ (t w : ℕ) (one : OneLength t w) (B : Type 0) (part : A → B) (make : List ℕ → B) (bytes : B → List ℕ) (check : B → Checked)
       (is : Computes t B part make bytes check) (other : Leaves t B part)
       (long : (b : B) → length (bytes b) ≡ w) (same : (b : B) → make (bytes b) ≡ b) (back : (v : List ℕ) → length v ≡ w → AllBytes v → bytes (make v) ≡ v) where
-    again : (s : A) → K.rule t s ≡ Passed → (x : A) → field_rule K t (K.bytes t s) x ≡ Passed
+    again : (s : A) → K.rule t s ≡ Ok tt → (x : A) → field_rule K t (K.bytes t s) x ≡ Ok tt
     unfolding field_rule
     again s e x =
         let v = bytes (part s) in

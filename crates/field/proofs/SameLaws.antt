@@ -6,7 +6,7 @@ use native.Mathlib.Omega.{arith}
 use lib.ListN.{length, take, replicate}
 use lib.Seq.{take_at, take-take, length-take-le}
 use Rattle.site.specs.declared.Site.{Site}
-use Rattle.site.specs.declared.Checked.TheVariants.{Passed}
+use Rattle.std.specs.Prelude.{Ok}
 use Rattle.site.specs.Bounds.{no_entry}
 use Rattle.site.specs.Check.{site_rule}
 use Rattle.site.specs.Values.{item_count}
@@ -17,10 +17,10 @@ use Rattle.field.specs.Clean.{clean, SameSite, Sized}
 padded_front : {A : Type 0} (l : List A) (n m : ℕ) (d : A) → length l ≡ m → n ≤ m → take n l ≡ take n (take m (take n l ++ replicate m d))
 padded_front l n m d e h = sym (take-take n m (take n l ++ replicate m d) h ∙ take_at (take n l) (replicate m d) n (length-take-le n l (omega arith)))
 
-pub clean_same : (s : Site) → Sized s → site_rule s ≡ Passed → SameSite s (clean s)
+pub clean_same : (s : Site) → Sized s → site_rule s ≡ Ok tt → SameSite s (clean s)
 unfolding clean item_count
 clean_same s z e = record {
-  name = padded_front s.name s.name_len 8 0 z.name (count_parts 1 s (site_passed s e 0 (omega arith)).0).1;
+  name = padded_front s.name.bytes s.name.len 8 0 z.name (count_parts 1 s (site_passed s e 0 (omega arith)).0).1;
   name_length = refl;
   entries = refl;
   one = record {
@@ -30,7 +30,7 @@ clean_same s z e = record {
     depth = refl;
     drainage = refl;
     percolation = refl;
-    stand = padded_front s.stand s.entries 4 no_entry z.stand (count_parts 7 s (site_passed s e 6 (omega arith)).0).1;
+    stand = padded_front s.stand.entries s.stand.count 4 no_entry z.stand (count_parts 7 s (site_passed s e 6 (omega arith)).0).1;
     immobilisation = refl;
     available = refl;
     deposition = refl;

@@ -8,7 +8,7 @@ use lib.Dec.{leb, eqb}
 use lib.ListN.{length, get_or, take, replicate, get_or-eq_default}
 use borrow.Author.Tests.{ne_eqb}
 use Rattle.site.specs.declared.Site.{Site}
-use Rattle.site.specs.declared.Checked.TheVariants.{Passed}
+use Rattle.std.specs.Prelude.{Ok}
 use Rattle.site.specs.Bounds.{no_entry}
 use Rattle.site.specs.Choice.{pick}
 use Rattle.site.specs.Bytes.{tabulate, entry_at}
@@ -38,17 +38,17 @@ module _ (v : List ℕ) where
 
 -- zeros past the name and past the entries
 abbrev NameTidy : Site → Type 0
-NameTidy s = take 8 (take s.name_len s.name ++ replicate 8 0) ≡ s.name
+NameTidy s = take 8 (take s.name.len s.name.bytes ++ replicate 8 0) ≡ s.name.bytes
 
 abbrev StandTidy : Site → Type 0
-StandTidy s = take 4 (take s.entries s.stand ++ replicate 4 no_entry) ≡ s.stand
+StandTidy s = take 4 (take s.stand.count s.stand.entries ++ replicate 4 no_entry) ≡ s.stand.entries
 
 unfoldable pub Tidy : ℕ → Site → Type 0
 Tidy t s = pick (eqb t 1) (NameTidy s) (pick (eqb t 7) (StandTidy s) Unit)
 
 pub record AsRead (t : ℕ) (s : Site) : Type 0 where
-  pub count : count_rule t s ≡ Passed
-  pub rule : value_rule t s ≡ Passed
+  pub count : count_rule t s ≡ Ok tt
+  pub rule : value_rule t s ≡ Ok tt
   pub tidy : Tidy t s
 
 -- ---- the laws of the field t
@@ -56,10 +56,10 @@ pub record AsRead (t : ℕ) (s : Site) : Type 0 where
 pub record TagLaws (t : ℕ) : Type 0 where
   pub kept : Kept site_kind t
   pub read : Made site_kind (AsRead t) t
-  pub again : (s : Site) → Sized s → count_rule t s ≡ Passed → value_rule t s ≡ Passed → (x : Site) → field_rule site_kind t (value t s) x ≡ Passed
+  pub again : (s : Site) → Sized s → count_rule t s ≡ Ok tt → value_rule t s ≡ Ok tt → (x : Site) → field_rule site_kind t (value t s) x ≡ Ok tt
 
 -- a field of one item, of which rule 7 holds in every site
-one_tag : (t : ℕ) → OneItem site_kind t → ((s : Site) → (count_rule t s ≡ Passed) × Tidy t s) → TagLaws t
+one_tag : (t : ℕ) → OneItem site_kind t → ((s : Site) → (count_rule t s ≡ Ok tt) × Tidy t s) → TagLaws t
 one_tag t one plain = record {
   kept = one.kept;
   read = record {
@@ -87,32 +87,32 @@ stand_clean v p =
     let q = permitted_parts 7 (length v) p in
     tabulate-clean 4 (length v / 4) 4 (λ i. entry_at v (4 * i)) no_entry (omega arith) (λ i h. entry_past v (4 * i) (omega arith))
 
-name_own : (v : List ℕ) (x : Site) → length_permitted 1 (length v) ≡ true → (count_rule 1 (store 1 v x) ≡ Passed) × Tidy 1 (store 1 v x)
+name_own : (v : List ℕ) (x : Site) → length_permitted 1 (length v) ≡ true → (count_rule 1 (store 1 v x) ≡ Ok tt) × Tidy 1 (store 1 v x)
 unfolding store item_count Tidy
 name_own v x p =
     let q = permitted_parts 1 (length v) p in
     (parts_counted 1 (store 1 v x) (omega arith) (omega arith), name_clean v)
 
-stand_own : (v : List ℕ) (x : Site) → length_permitted 7 (length v) ≡ true → (count_rule 7 (store 7 v x) ≡ Passed) × Tidy 7 (store 7 v x)
+stand_own : (v : List ℕ) (x : Site) → length_permitted 7 (length v) ≡ true → (count_rule 7 (store 7 v x) ≡ Ok tt) × Tidy 7 (store 7 v x)
 unfolding store item_count Tidy
 stand_own v x p =
     let q = permitted_parts 7 (length v) p in
     (parts_counted 7 (store 7 v x) (omega arith) (omega arith), stand_clean v p)
 
-name_other : (u : ℕ) (v : List ℕ) (x : Site) → (u ≡ 1 → ⊥) → (count_rule 1 x ≡ Passed) × Tidy 1 x → (count_rule 1 (store u v x) ≡ Passed) × Tidy 1 (store u v x)
+name_other : (u : ℕ) (v : List ℕ) (x : Site) → (u ≡ 1 → ⊥) → (count_rule 1 x ≡ Ok tt) × Tidy 1 x → (count_rule 1 (store u v x) ≡ Ok tt) × Tidy 1 (store u v x)
 unfolding store count_rule item_count Tidy
 name_other u v x h p = (rw (ne_eqb u 1 h) p.0, rw (ne_eqb u 1 h) p.1)
 
-stand_other : (u : ℕ) (v : List ℕ) (x : Site) → (u ≡ 7 → ⊥) → (count_rule 7 x ≡ Passed) × Tidy 7 x → (count_rule 7 (store u v x) ≡ Passed) × Tidy 7 (store u v x)
+stand_other : (u : ℕ) (v : List ℕ) (x : Site) → (u ≡ 7 → ⊥) → (count_rule 7 x ≡ Ok tt) × Tidy 7 x → (count_rule 7 (store u v x) ≡ Ok tt) × Tidy 7 (store u v x)
 unfolding store count_rule item_count Tidy
 stand_other u v x h p = (rw (ne_eqb u 7 h) p.0, rw (ne_eqb u 7 h) p.1)
 
 -- a field of many items
 many_part : (t : ℕ) → Kept site_kind t
-    → ((v : List ℕ) (x : Site) → length_permitted t (length v) ≡ true → (count_rule t (store t v x) ≡ Passed) × Tidy t (store t v x))
-    → ((u : ℕ) (v : List ℕ) (x : Site) → (u ≡ t → ⊥) → (count_rule t x ≡ Passed) × Tidy t x → (count_rule t (store u v x) ≡ Passed) × Tidy t (store u v x))
-    → ((u : ℕ) (v : List ℕ) (x : Site) → (u ≡ t → ⊥) → value_rule t x ≡ Passed → value_rule t (store u v x) ≡ Passed)
-    → ((s : Site) → Sized s → count_rule t s ≡ Passed → value_rule t s ≡ Passed → (x : Site) → field_rule site_kind t (value t s) x ≡ Passed) → TagLaws t
+    → ((v : List ℕ) (x : Site) → length_permitted t (length v) ≡ true → (count_rule t (store t v x) ≡ Ok tt) × Tidy t (store t v x))
+    → ((u : ℕ) (v : List ℕ) (x : Site) → (u ≡ t → ⊥) → (count_rule t x ≡ Ok tt) × Tidy t x → (count_rule t (store u v x) ≡ Ok tt) × Tidy t (store u v x))
+    → ((u : ℕ) (v : List ℕ) (x : Site) → (u ≡ t → ⊥) → value_rule t x ≡ Ok tt → value_rule t (store u v x) ≡ Ok tt)
+    → ((s : Site) → Sized s → count_rule t s ≡ Ok tt → value_rule t s ≡ Ok tt → (x : Site) → field_rule site_kind t (value t s) x ≡ Ok tt) → TagLaws t
 many_part t kept own other rule again = record {
   kept = kept;
   read = record {
@@ -122,25 +122,25 @@ many_part t kept own other rule again = record {
   again = again;
 }
 
-name_again : (s : Site) → Sized s → count_rule 1 s ≡ Passed → value_rule 1 s ≡ Passed → (x : Site) → field_rule site_kind 1 (value 1 s) x ≡ Passed
+name_again : (s : Site) → Sized s → count_rule 1 s ≡ Ok tt → value_rule 1 s ≡ Ok tt → (x : Site) → field_rule site_kind 1 (value 1 s) x ≡ Ok tt
 unfolding value value_rule store field_rule
 name_again s z c e x =
-    let name = take s.name_len s.name in
+    let name = take s.name.len s.name.bytes in
     let l = name_long s z c in
     let k = name_counts s z c in
     let n8 : length name ≤ 8 = omega arith in
     rw (parts_permitted 1 (length name) (omega arith) n8 (omega arith), take-tabulate 8 name 0 n8) e
 
-stand_again : (s : Site) → Sized s → count_rule 7 s ≡ Passed → value_rule 7 s ≡ Passed → (x : Site) → field_rule site_kind 7 (value 7 s) x ≡ Passed
+stand_again : (s : Site) → Sized s → count_rule 7 s ≡ Ok tt → value_rule 7 s ≡ Ok tt → (x : Site) → field_rule site_kind 7 (value 7 s) x ≡ Ok tt
 unfolding value value_rule store field_rule
 stand_again s z c e x =
-    let es = take s.entries s.stand in
+    let es = take s.stand.count s.stand.entries in
     let b = bytes_long s z c in
     let l = stand_long s z c in
     let k = stand_counts s z c in
     let n4 : length es ≤ 4 = omega arith in
-    let t : take s.entries (tabulate 4 (λ i. get_or es i no_entry)) ≡ es = rw l at (take-tabulate 4 es no_entry n4) in
-    rw (b, parts_permitted 7 (4 * s.entries) (omega arith) (omega arith) (omega arith), quarter, stand_back 4 es, t) e
+    let t : take s.stand.count (tabulate 4 (λ i. get_or es i no_entry)) ≡ es = rw l at (take-tabulate 4 es no_entry n4) in
+    rw (b, parts_permitted 7 (4 * s.stand.count) (omega arith) (omega arith) (omega arith), quarter, stand_back 4 es, t) e
 
 name_tag : TagLaws 1
 unfolding value value_rule store
@@ -175,5 +175,5 @@ tags =
     ▸ one_tag 12 (word_item site_kind 12 (λ s. s.gibbsite) (between gibbsite_range) (one-length 12 2 refl refl refl) (λ s v. (refl, refl, refl)) (λ u v x h. rw (ne_eqb u 12 h))) (λ s. (refl, tt))
     ▸ one_tag 13 (word_item site_kind 13 (λ s. s.ceiling) (between ceiling_range) (one-length 13 2 refl refl refl) (λ s v. (refl, refl, refl)) (λ u v x h. rw (ne_eqb u 13 h))) (λ s. (refl, tt))
     ▸ one_tag 14 (word_item site_kind 14 (λ s. s.leachate) (between leachate_range) (one-length 14 2 refl refl refl) (λ s v. (refl, refl, refl)) (λ u v x h. rw (ne_eqb u 14 h))) (λ s. (refl, tt))
-    ▸ one_tag 15 (words_item site_kind 15 (λ s. (s.sulphur, s.nitrogen)) (λ b. Passed) (one-length 15 4 refl refl refl) (λ s v. (refl, refl, refl)) (λ u v x h. rw (ne_eqb u 15 h))) (λ s. (refl, tt))
+    ▸ one_tag 15 (words_item site_kind 15 (λ s. (s.sulphur, s.nitrogen)) (λ b. (Ok tt)) (one-length 15 4 refl refl refl) (λ s v. (refl, refl, refl)) (λ u v x h. rw (ne_eqb u 15 h))) (λ s. (refl, tt))
     ▸ none

@@ -5,13 +5,12 @@ use mathlib.Core.List.{List}
 use Prim.Native.Nat.{ℕ}
 use lib.ListN.{length}
 use Rattle.site.specs.declared.Rule.TheVariants.{BadLength}
-use Rattle.site.specs.declared.Checked.{Checked}
-use Rattle.site.specs.declared.Checked.TheVariants.{Broken}
+use Rattle.site.specs.Refusal.{Checked, checked_number, Numbered}
+use Rattle.std.specs.Prelude.{Err}
 use Rattle.site.specs.declared.Site.{Site}
 use Rattle.field.specs.declared.Taken.{Taken}
 use Rattle.field.specs.Field.{store, site_kind, taken, Stored}
 use Rattle.field.specs.Kind.{field_rule}
-use Rattle.site.specs.Refusal.{checked_number, Numbered}
 use Rattle.site.specs.Values.{length_permitted, value_rule}
 use Rattle.site.proofs.NumberLaws.{known, numbered, known_pick, known_value}
 
@@ -21,7 +20,7 @@ taken_of c s = record { checked = c; site = s }
 module _ (t : ℕ) (v : List ℕ) (s : Site) where
   known_field : known (field_rule site_kind t v s) ≡ true
   unfolding field_rule known
-  known_field = known_pick (length_permitted t (length v)) (value_rule t (store t v s)) (Broken BadLength) (known_value t (store t v s)) refl
+  known_field = known_pick (length_permitted t (length v)) (value_rule t (store t v s)) (Err BadLength) (known_value t (store t v s)) refl
 
   -- an answer, and its number
   abbrev Answer : Taken → Type 0
@@ -38,7 +37,7 @@ module _ (t : ℕ) (v : List ℕ) (s : Site) where
       let checked : r.checked ≡ value_rule t (store t v s) = rw site at h.checked in
       answered r (rw p (ap (λ (c : Checked). taken_of c r.site) checked ∙ ap (λ (y : Site). taken_of (value_rule t (store t v s)) y) site))
 
-  pub taken_refused : length_permitted t (length v) ≡ false → Answer (record { checked = Broken BadLength; site = s })
+  pub taken_refused : length_permitted t (length v) ≡ false → Answer (record { checked = Err BadLength; site = s })
   unfolding taken field_rule
   taken_refused p = answered _ (rw p)
 

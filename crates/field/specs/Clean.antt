@@ -7,16 +7,16 @@ use Rattle.site.specs.OneSite.{OneSite}
 -- the site with zeros past its name's length and its entries' count
 unfoldable pub clean : Site → Site
 clean s = record {
-  name = take 8 (take s.name_len s.name ++ replicate 8 0);
-  name_len = s.name_len;
+  name = take 8 (take s.name.len s.name.bytes ++ replicate 8 0);
+  name_len = s.name.len;
   parent = s.parent;
   clay = s.clay;
   sand = s.sand;
   depth = s.depth;
   drainage = s.drainage;
   percolation = s.percolation;
-  stand = take 4 (take s.entries s.stand ++ replicate 4 no_entry);
-  entries = s.entries;
+  stand = take 4 (take s.stand.count s.stand.entries ++ replicate 4 no_entry);
+  entries = s.stand.count;
   immobilisation = s.immobilisation;
   available = s.available;
   base_deposition = s.base_deposition;
@@ -30,17 +30,17 @@ clean s = record {
 
 -- s and t are the same site: all values are equal, name and stand up to their lengths; what stands past them is no part of a site
 pub record SameSite (s t : Site) : Type 0 where
-  pub name : take s.name_len s.name ≡ take t.name_len t.name
-  pub name_length : s.name_len ≡ t.name_len
-  pub entries : s.entries ≡ t.entries
+  pub name : take s.name.len s.name.bytes ≡ take t.name.len t.name.bytes
+  pub name_length : s.name.len ≡ t.name.len
+  pub entries : s.stand.count ≡ t.stand.count
   pub one : OneSite s t
   pub sulphur : s.sulphur ≡ t.sulphur
   pub nitrogen : s.nitrogen ≡ t.nitrogen
 
 -- the lengths of a site's arrays: those of their types, so every site of the code has them
 pub record Sized (s : Site) : Type 0 where
-  pub name : length s.name ≡ 8
-  pub stand : length s.stand ≡ 4
+  pub name : length s.name.bytes ≡ 8
+  pub stand : length s.stand.entries ≡ 4
 
 -- every element is a byte: so it is in every slice of bytes
 abbrev pub AllBytes : List ℕ → Type 0

@@ -13,16 +13,16 @@ use Rattle.field.specs.Kind.{Kind, field_rule}
 -- the value v of the field with tag t, put into s; past v's end stand zeros
 unfoldable pub store : ℕ → List ℕ → Site → Site
 store t v s = record {
-  name = pick (eqb t 1) (name_in v) s.name;
-  name_len = pick (eqb t 1) (length v) s.name_len;
+  name = pick (eqb t 1) (name_in v) s.name.bytes;
+  name_len = pick (eqb t 1) (length v) s.name.len;
   parent = pick (eqb t 2) (get_or v 0 0) s.parent;
   clay = pick (eqb t 3) (get_or v 0 0) s.clay;
   sand = pick (eqb t 3) (get_or v 1 0) s.sand;
   depth = pick (eqb t 4) (get_or v 0 0) s.depth;
   drainage = pick (eqb t 5) (get_or v 0 0) s.drainage;
   percolation = pick (eqb t 6) (word_at v 0) s.percolation;
-  stand = pick (eqb t 7) (tabulate 4 (λ i. entry_at v (4 * i))) s.stand;
-  entries = pick (eqb t 7) (length v / 4) s.entries;
+  stand = pick (eqb t 7) (tabulate 4 (λ i. entry_at v (4 * i))) s.stand.entries;
+  entries = pick (eqb t 7) (length v / 4) s.stand.count;
   immobilisation = pick (eqb t 8) (word_at v 0) s.immobilisation;
   available = pick (eqb t 9) (get_or v 0 0) s.available;
   base_deposition = pick (eqb t 10) (word_at v 0) s.base_deposition;
@@ -67,13 +67,13 @@ blank_site = record {
 abbrev pub values : Site → List (List ℕ)
 values s =
     []
-    ∷ take s.name_len s.name  -- 01
+    ∷ take s.name.len s.name.bytes  -- 01
     ∷ (s.parent ∷ [])  -- 02
     ∷ (s.clay ∷ s.sand ∷ [])  -- 03
     ∷ (s.depth ∷ [])  -- 04
     ∷ (s.drainage ∷ [])  -- 05
     ∷ word_bytes s.percolation  -- 06
-    ∷ entries_bytes (take s.entries s.stand)  -- 07
+    ∷ entries_bytes (take s.stand.count s.stand.entries)  -- 07
     ∷ word_bytes s.immobilisation  -- 08
     ∷ (s.available ∷ [])  -- 09
     ∷ word_bytes s.base_deposition  -- 0A

@@ -1,8 +1,7 @@
 -- What is special to a kind of record, whose values are of type A; and the rules of one field.
-use Rattle.std.specs.Prelude.{ℕ, Bool, List, length}
+use Rattle.std.specs.Prelude.{ℕ, Bool, List, length, Err}
 use Rattle.site.specs.declared.Rule.TheVariants.{BadLength}
-use Rattle.site.specs.declared.Checked.{Checked}
-use Rattle.site.specs.declared.Checked.TheVariants.{Broken}
+use Rattle.site.specs.Refusal.{Checked}
 use Rattle.site.specs.Choice.{pick}
 
 pub record Kind (A : Type 0) : Type 0 where
@@ -20,4 +19,4 @@ pub record Kind (A : Type 0) : Type 0 where
 
 -- rules 7 to 10 of the field with tag t and value v, taken into x
 unfoldable pub field_rule : {A : Type 0} → Kind A → ℕ → List ℕ → A → Checked
-field_rule K t v x = pick (K.permitted t (length v)) (K.rule t (K.store t v x)) (Broken BadLength)
+field_rule K t v x = pick (K.permitted t (length v)) (K.rule t (K.store t v x)) (Err BadLength)

@@ -1,16 +1,14 @@
 -- Output into a lent buffer: rule 11, what the buffer then holds, and the answer with its numbers.
 use Rattle.std.specs.Prelude.{ℕ, List, ◌++◌, leb, length, drop, Result, Ok, Err}
 use Rattle.site.specs.Choice.{pick}
-use Rattle.site.specs.Refusal.{rule_number, and_then}
+use Rattle.site.specs.Refusal.{rule_number, and_then, Checked}
 use Rattle.site.specs.declared.Rule.TheVariants.{BufferShort}
-use Rattle.site.specs.declared.Checked.{Checked}
-use Rattle.site.specs.declared.Checked.TheVariants.{Passed, Broken}
 use Rattle.site.specs.ByCheck.{answer_if}
 use Rattle.site.specs.declared.Refusal.{Refusal}
 
 -- rule 11, where `needed` elements are to stand in a buffer of `room`
 unfoldable pub room_rule : (needed room : ℕ) → Checked
-room_rule needed room = pick (leb needed room) Passed (Broken BufferShort)
+room_rule needed room = pick (leb needed room) (Ok tt) (Err BufferShort)
 
 -- all that an output can break: its own rules, then 11
 unfoldable pub output_rule : Checked → (needed room : ℕ) → Checked
@@ -18,8 +16,8 @@ output_rule own needed room = and_then own (room_rule needed room)
 
 -- what the buffer then holds: the output and what stood behind it, or what it held before
 unfoldable pub held_after : {A : Type 0} → Checked → (xs old : List A) → List A
-held_after Passed xs old = xs ++ drop (length xs) old
-held_after (Broken r) xs old = old
+held_after (Ok tt) xs old = xs ++ drop (length xs) old
+held_after (Err r) xs old = old
 
 -- what is answered: how many elements were written, or the refusal
 abbrev pub Written : Type 0
@@ -36,13 +34,13 @@ written_numbers (Err r) = (rule_number r.rule, r.at)
 
 -- the same by what the output can break: the number, or 0; then the count, or the offset 0
 unfoldable pub output_numbers : Checked → ℕ → ℕ × ℕ
-output_numbers Passed n = (0, n)
-output_numbers (Broken r) n = (rule_number r, 0)
+output_numbers (Ok tt) n = (0, n)
+output_numbers (Err r) n = (rule_number r, 0)
 
 -- how many elements were written
 unfoldable pub output_count : Checked → ℕ → ℕ
-output_count Passed n = n
-output_count (Broken r) n = 0
+output_count (Ok tt) n = n
+output_count (Err r) n = 0
 
 -- buffer and numbers of an output that no rule but 11 can refuse
 abbrev pub held : {A : Type 0} → (xs old : List A) → List A
