@@ -7,16 +7,14 @@ use Rattle.site.specs.OneSite.{OneSite}
 -- the site with zeros past its name's length and its entries' count
 unfoldable pub clean : Site → Site
 clean s = record {
-  name = take 8 (take s.name.len s.name.bytes ++ replicate 8 0);
-  name_len = s.name.len;
+  name = record { bytes = take 8 (take s.name.len s.name.bytes ++ replicate 8 0); len = s.name.len };
   parent = s.parent;
   clay = s.clay;
   sand = s.sand;
   depth = s.depth;
   drainage = s.drainage;
   percolation = s.percolation;
-  stand = take 4 (take s.stand.count s.stand.entries ++ replicate 4 no_entry);
-  entries = s.stand.count;
+  stand = record { entries = take 4 (take s.stand.count s.stand.entries ++ replicate 4 no_entry); count = s.stand.count };
   immobilisation = s.immobilisation;
   available = s.available;
   base_deposition = s.base_deposition;

@@ -1,5 +1,5 @@
 -- The fields of a site record by tag, both ways: a value taken into a site, and the bytes of a site's value.
-use Rattle.std.specs.Prelude.{◌≡◌, ℕ, ◌*◌, ◌/◌, List, [], ◌∷◌, ◌++◌, eqb, get_or, length, take, replicate}
+use Rattle.std.specs.Prelude.{ℕ, Result, Ok, ◌*◌, ◌/◌, List, [], ◌∷◌, ◌++◌, eqb, get_or, length, take, replicate}
 use Rattle.site.specs.declared.Entry.{Entry}
 use Rattle.site.specs.declared.Site.{Site}
 use Rattle.site.specs.Bounds.{no_entry}
@@ -7,22 +7,21 @@ use Rattle.numbers.specs.TwoBytes.{word_at, word_bytes}
 use Rattle.site.specs.Bytes.{tabulate, name_in, entry_at}
 use Rattle.site.specs.Choice.{pick}
 use Rattle.site.specs.Values.{due, length_permitted, value_rule}
-use Rattle.field.specs.declared.Taken.{Taken}
+use Rattle.site.specs.declared.Rule.{Rule}
+use Rattle.site.specs.Refusal.{and_then}
 use Rattle.field.specs.Kind.{Kind, field_rule}
 
 -- the value v of the field with tag t, put into s; past v's end stand zeros
 unfoldable pub store : ℕ → List ℕ → Site → Site
 store t v s = record {
-  name = pick (eqb t 1) (name_in v) s.name.bytes;
-  name_len = pick (eqb t 1) (length v) s.name.len;
+  name = pick (eqb t 1) (record { bytes = name_in v; len = length v }) s.name;
   parent = pick (eqb t 2) (get_or v 0 0) s.parent;
   clay = pick (eqb t 3) (get_or v 0 0) s.clay;
   sand = pick (eqb t 3) (get_or v 1 0) s.sand;
   depth = pick (eqb t 4) (get_or v 0 0) s.depth;
   drainage = pick (eqb t 5) (get_or v 0 0) s.drainage;
   percolation = pick (eqb t 6) (word_at v 0) s.percolation;
-  stand = pick (eqb t 7) (tabulate 4 (λ i. entry_at v (4 * i))) s.stand.entries;
-  entries = pick (eqb t 7) (length v / 4) s.stand.count;
+  stand = pick (eqb t 7) (record { entries = tabulate 4 (λ i. entry_at v (4 * i)); count = length v / 4 }) s.stand;
   immobilisation = pick (eqb t 8) (word_at v 0) s.immobilisation;
   available = pick (eqb t 9) (get_or v 0 0) s.available;
   base_deposition = pick (eqb t 10) (word_at v 0) s.base_deposition;
@@ -42,16 +41,14 @@ entries_bytes (e ∷ es) = e.species ∷ e.share ∷ word_bytes e.yield_kg ++ en
 -- the site that reading starts from
 unfoldable pub blank_site : Site
 blank_site = record {
-  name = replicate 8 0;
-  name_len = 0;
+  name = record { bytes = replicate 8 0; len = 0 };
   parent = 0;
   clay = 0;
   sand = 0;
   depth = 0;
   drainage = 0;
   percolation = 0;
-  stand = replicate 4 no_entry;
-  entries = 0;
+  stand = record { entries = replicate 4 no_entry; count = 0 };
   immobilisation = 0;
   available = 0;
   base_deposition = 0;
@@ -93,11 +90,6 @@ abbrev pub site_kind : Kind Site
 site_kind =
     record { tag = 82; due = due; blank = blank_site; permitted = length_permitted; store = store; rule = value_rule; bytes = value }
 
--- what rules 7 to 10 say of the field; and the site with its value, where its length is permitted, also if rules 8 to 10 refuse it
-unfoldable pub taken : ℕ → List ℕ → Site → Taken
-taken t v s = record { checked = field_rule site_kind t v s; site = pick (length_permitted t (length v)) (store t v s) s }
-
--- r is s with the field of a permitted length, and what rules 8 to 10 say of it
-pub record Stored (t : ℕ) (v : List ℕ) (s : Site) (r : Taken) : Type 0 where
-  pub site : r.site ≡ store t v s
-  pub checked : r.checked ≡ value_rule t r.site
+-- what rules 7 to 10 say of the field, or the site with its value
+unfoldable pub taken : ℕ → List ℕ → Site → Result Site Rule
+taken t v s = and_then (field_rule site_kind t v s) (Ok (store t v s))

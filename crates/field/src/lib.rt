@@ -4,13 +4,5 @@
 mod start;
 mod taking;
 
-use site::{Checked, Site};
 pub use start::blank;
 pub use taking::take_field;
-
-// A field taken into a site: what its rules say, and the site.
-#[derive(Clone, Copy)]
-pub struct Taken {
-    pub checked: Checked,
-    pub site: Site,
-}

@@ -24,8 +24,8 @@ abbrev pub Checked : Type 0
 Checked = Result (Unit {0}) Rule
 
 -- the number of the refusal, and 0 where there is none
-unfoldable pub checked_number : Checked → ℕ
-checked_number (Ok tt) = 0
+unfoldable pub checked_number : {A : Type 0} → Result A Rule → ℕ
+checked_number (Ok x) = 0
 checked_number (Err r) = rule_number r
 
 -- the number of what the check of a site value or of a field says: 0, or 7 to 10; no other rule can come

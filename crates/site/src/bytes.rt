@@ -1,6 +1,6 @@
 // A name and an entry in bytes, with zeros past the end.
-ghost use Rattle.std.specs.Prelude.{◌≡◌};
-ghost use Rattle.site.specs.Bytes.{name_in, entry_at};
+ghost use Rattle.std.specs.Prelude.{◌≡◌, ◌*◌};
+ghost use Rattle.site.specs.Bytes.{tabulate, name_in, entry_at};
 
 use crate::Entry;
 use numbers::{byte, word_at};
@@ -30,4 +30,12 @@ pub fn entry_at(s: &[u8], i: usize) -> Entry
         share: byte(s, i + 1),
         yield_kg: word_at(s, i + 2),
     }
+}
+
+// The entries whose bytes stand at the front.
+#[tactic(auto, unfolding(crate::specs::Bytes::tabulate))]
+pub fn entries_in(s: &[u8]) -> [Entry; 4]
+    ensures { result ≡ tabulate 4 (λ i. entry_at s.now (4 * i)) }
+{
+    array::from_fn(|i| entry_at(s, 4 * i))
 }

@@ -10,9 +10,10 @@ mod rules;
 mod stands;
 mod value;
 
-pub use bytes::{entry_at, name_in};
+pub use bytes::{entries_in, entry_at, name_in};
 pub use check::check_site;
 pub use length::length_permitted;
+pub use value::value_rule;
 pub use ranges::{
     AVAILABLE, BASE_DEPOSITION, CEILING, DEPTH, DRAINAGE, GIBBSITE, IMMOBILISATION, LEACHATE,
     PARENT, PERCOLATION, RATIO, Range, texture_rule,
