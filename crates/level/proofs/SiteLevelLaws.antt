@@ -1,24 +1,25 @@
 -- The search at a site: a site that passes the check passes that of the search; what an answer says of its site; all that the call promises.
-use mathlib.Core.Path.{◌≡◌, refl, sym, ◌∙◌, ap}
+use Prim.Native.Nat.{ℕ}
+use mathlib.Core.Path.{◌≡◌, refl}
 use native.Mathlib.Omega.{arith}
 use lib.ListN.{length}
+use Rattle.std.specs.Prelude.{Ok, Err}
 use Rattle.site.specs.Check.{site_rule}
 use Rattle.site.specs.Refusal.{and_then, values_if}
 use Rattle.site.specs.Values.{value_rule}
 use Rattle.site.specs.ByCheck.{answer_if}
 use Rattle.site.specs.declared.Site.{Site}
 use Rattle.site.specs.declared.Rule.{Rule}
-use Rattle.std.specs.Prelude.{Ok, Err}
 use Rattle.site.proofs.FieldLaws.{site_passed}
 use Rattle.site.proofs.ByCheckLaws.{given_by_lem, refused_by, values_by}
 use Rattle.loads.specs.declared.Searched.{Searched}
-use Rattle.loads.specs.declared.LevelAnswer.{LevelAnswer}
-use Rattle.loads.specs.declared.LevelAnswer.TheVariants.{Given, Refused}
 use Rattle.loads.specs.SiteTerms.{terms_of}
+use Rattle.loads.specs.Limits.{limit_answer}
 use Rattle.loads.specs.Hydrogen.{greatest_level}
 use Rattle.loads.specs.Search.{searched_of, searched_at, searched_numbers, levels_compared, level_numbers, FewAt, level_rule, level_answer, level_values}
 use Rattle.loads.proofs.SearchLaws.{few_compared}
-use Rattle.loads.proofs.LevelAnswers.{apart, level_passed}
+use Rattle.loads.proofs.LevelAnswers.{level_passed}
+use Rattle.loads.proofs.LimitAnswers.{limit_given, limit_refused}
 use Rattle.level.specs.SiteLevel.{site_level}
 
 module _ (s : Site) where
@@ -27,38 +28,32 @@ module _ (s : Site) where
   unfolding level_rule and_then value_rule
   search_passed e = rw ((site_passed s e 5 (omega arith)).1, (site_passed s e 11 (omega arith)).1) (site_passed s e 12 (omega arith)).1
 
-  pub search_at : site_rule s ≡ Ok tt → level_answer s.percolation s.gibbsite (terms_of s).A s.ceiling ≡ site_level s
+  -- the answer by that of the aluminium limit
+  pub by_limit : (a : ℕ) → limit_answer s ≡ Ok a → level_answer s.percolation s.gibbsite a s.ceiling ≡ site_level s
   unfolding level_answer site_level answer_if searched_at terms_of
-  search_at e = rw (e, search_passed e)
+  by_limit a e = let g = limit_given s a e in rw (g.0, g.1, search_passed g.0)
 
-  pub level_given : (f : Searched) → site_level s ≡ Given f → (site_rule s ≡ Ok tt) × (f ≡ searched_at (terms_of s))
-  unfolding site_level
-  level_given = given_by_lem Given Refused apart (λ x y e. cc) (site_rule s) (searched_at (terms_of s))
+  pub by_refusal : (r : Rule) → limit_answer s ≡ Err r → site_level s ≡ Err r
+  unfolding site_level answer_if
+  by_refusal r e = rw (limit_refused s r e)
 
-  pub level_refused : (r : Rule) → site_level s ≡ Refused r → site_rule s ≡ Err r
+  pub site_level_values : level_values (site_level s) ≡ values_if (site_rule s) (level_numbers (terms_of s))
+  unfolding site_level level_values searched_numbers searched_at searched_of greatest_level levels_compared level_numbers
+  site_level_values = values_by Ok Err level_values searched_numbers (λ f. refl) (λ r. refl) (site_rule s) (searched_at (terms_of s))
+
+  pub level_given : (f : Searched) → site_level s ≡ Ok f → (site_rule s ≡ Ok tt) × (f ≡ searched_at (terms_of s))
   unfolding site_level
-  level_refused = refused_by Given Refused apart (λ r k e. cc) (site_rule s) (searched_at (terms_of s))
+  level_given = given_by_lem Ok Err (λ f r e. cc) (λ f g e. cc) (site_rule s) (searched_at (terms_of s))
+
+  pub level_refused : (r : Rule) → site_level s ≡ Err r → site_rule s ≡ Err r
+  unfolding site_level
+  level_refused = refused_by Ok Err (λ f r e. cc) (λ r k e. cc) (site_rule s) (searched_at (terms_of s))
 
   -- how many levels are compared at a site that passes
   pub few_at : site_rule s ≡ Ok tt → FewAt (terms_of s) (length (levels_compared (terms_of s)))
   unfolding levels_compared terms_of
   few_at e = few_compared s.percolation s.gibbsite (terms_of s).A s.ceiling (level_passed s.percolation s.gibbsite s.ceiling (search_passed e))
 
-  few : (f : Searched) → site_level s ≡ Given f → FewAt (terms_of s) f.compared
+  pub few_found : (f : Searched) → site_level s ≡ Ok f → FewAt (terms_of s) f.compared
   unfolding searched_at searched_of levels_compared
-  few f e = let g = level_given f e in rw g.1 (few_at g.0)
-
-  -- all that the call promises, from its equation
-  pub level_promise :
-      (r : LevelAnswer) → r ≡ site_level s
-      → (r ≡ site_level s)
-      × ((level_values r ≡ values_if (site_rule s) (level_numbers (terms_of s)))
-      × ((f : Searched) → r ≡ Given f → FewAt (terms_of s) f.compared))
-  unfolding site_level level_values searched_numbers searched_at searched_of greatest_level levels_compared level_numbers
-  level_promise r is = (
-    is,
-    (
-      ap level_values is ∙ values_by Given Refused level_values searched_numbers (λ f. refl) (λ r. refl) (site_rule s) (searched_at (terms_of s)),
-      λ f e. few f (sym is ∙ e),
-    ),
-  )
+  few_found f e = let g = level_given f e in rw g.1 (few_at g.0)

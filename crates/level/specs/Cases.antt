@@ -9,16 +9,14 @@ use Rattle.loads.specs.Search.{levels_compared}
 
 abbrev pub a1_with : (ceiling : ℕ) → Site
 a1_with h = record {
-  name = a1.name.bytes;
-  name_len = a1.name.len;
+  name = a1.name;
   parent = a1.parent;
   clay = a1.clay;
   sand = a1.sand;
   depth = a1.depth;
   drainage = a1.drainage;
   percolation = a1.percolation;
-  stand = a1.stand.entries;
-  entries = a1.stand.count;
+  stand = a1.stand;
   immobilisation = a1.immobilisation;
   available = a1.available;
   base_deposition = a1.base_deposition;

@@ -6,20 +6,16 @@ ghost use Rattle.loads.specs.SiteTerms.{terms_of};
 ghost use Rattle.loads.specs.Search.{level_numbers, FewAt, level_values};
 ghost use Rattle.level.specs.SiteLevel.{site_level};
 
-use loads::{LevelAnswer, LimitAnswer, Searched, aluminium_limit, greatest_level};
-use site::Site;
+use loads::{Searched, aluminium_limit, greatest_level};
+use site::{Rule, Site};
 
 // The greatest allowed level of a site, and how many levels were compared with its aluminium limit; or the first rule that it breaks.
-#[tactic(auto, using(loads::proofs::LimitAnswers::limit_given, crate::proofs::SiteLevelLaws::search_at, crate::proofs::SiteLevelLaws::level_promise))]
-pub fn level_at(site: Site) -> LevelAnswer
+#[tactic(auto, using(crate::proofs::SiteLevelLaws::by_limit, crate::proofs::SiteLevelLaws::by_refusal, crate::proofs::SiteLevelLaws::site_level_values, crate::proofs::SiteLevelLaws::few_found))]
+pub fn level_at(site: Site) -> Result<Searched, Rule>
     ensures answer { result ≡ site_level site }
     ensures values { level_values result ≡ values_if (site_rule site) (level_numbers (terms_of site)) }
-    ensures count { (found : Searched) → result ≡ LevelAnswer.Given found → FewAt (terms_of site) found.compared }
+    ensures count { (found : Searched) → result ≡ Ok found → FewAt (terms_of site) found.compared }
 {
-    match aluminium_limit(site) {
-        LimitAnswer::Refused(rule) => LevelAnswer::Refused(rule),
-        LimitAnswer::Given(limit) => {
-            greatest_level(site.percolation, site.gibbsite, limit, site.ceiling)
-        }
-    }
+    let limit = aluminium_limit(site)?;
+    greatest_level(site.percolation, site.gibbsite, limit, site.ceiling)
 }
