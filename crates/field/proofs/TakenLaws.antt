@@ -28,3 +28,22 @@ by_rule (Err r) x k = numbered (Err r) (Err r) refl k
 pub taken_numbered : (t : ℕ) (v : List ℕ) (s : Site) (r : Result Site Rule) → r ≡ taken t v s → Numbered (field_rule site_kind t v s) (checked_number r)
 unfolding taken
 taken_numbered t v s r e = rw e (by_rule (field_rule site_kind t v s) (store t v s) (known_field t v s))
+
+and_then_ok : (c : Checked) (x y : Site) → and_then c (Ok x) ≡ Ok y → (c ≡ Ok tt) × (y ≡ x)
+unfolding and_then
+and_then_ok (Ok tt) x y e = (refl, cc)
+and_then_ok (Err r) x y e = cc
+
+and_then_err : (c : Checked) (x : Site) (r : Rule) → and_then c (Ok x) ≡ Err r → c ≡ Err r
+unfolding and_then
+and_then_err (Ok tt) x r e = cc
+and_then_err (Err k) x r e = cc
+
+module _ (t : ℕ) (v : List ℕ) (s : Site) where
+  pub taken_ok : (x : Site) → taken t v s ≡ Ok x → (field_rule site_kind t v s ≡ Ok tt) × (x ≡ store t v s)
+  unfolding taken
+  taken_ok x e = and_then_ok _ _ x e
+
+  pub taken_err : (r : Rule) → taken t v s ≡ Err r → field_rule site_kind t v s ≡ Err r
+  unfolding taken
+  taken_err r e = and_then_err _ _ r e

@@ -8,25 +8,7 @@ use Rattle.loads.specs.SiteTerms.{terms_of}
 use Rattle.loads.specs.Search.{levels_compared}
 
 abbrev pub a1_with : (ceiling : ℕ) → Site
-a1_with h = record {
-  name = a1.name;
-  parent = a1.parent;
-  clay = a1.clay;
-  sand = a1.sand;
-  depth = a1.depth;
-  drainage = a1.drainage;
-  percolation = a1.percolation;
-  stand = a1.stand;
-  immobilisation = a1.immobilisation;
-  available = a1.available;
-  base_deposition = a1.base_deposition;
-  ratio = a1.ratio;
-  gibbsite = a1.gibbsite;
-  ceiling = h;
-  leachate = a1.leachate;
-  sulphur = a1.sulphur;
-  nitrogen = a1.nitrogen;
-}
+a1_with h = record a1 { ceiling = h }
 
 pub record LevelCase : Type 0 where
   pub ceiling : ℕ

@@ -1,1 +1,2 @@
 pub mod FloatByteLaws
+pub mod MadeLaws

@@ -1,11 +1,11 @@
 -- Laws of a record's bytes: its fields one after another, for every kind, and the length of a site's record.
-use mathlib.Core.Path.{◌≡◌, refl, ap}
-use mathlib.Core.List.{List, ◌++◌, ◌∷◌, []}
+use mathlib.Core.Path.{◌≡◌, ap, ◌∙◌}
+use mathlib.Core.List.{List, ◌∷◌, []}
 use Prim.Native.Nat.{ℕ, ◌+◌, ◌*◌, ◌/◌, ◌%◌, ◌≤◌}
 use native.Mathlib.Omega.{arith}
 use lib.ListN.{length, take, length-append}
 use Rattle.site.specs.declared.Site.{Site}
-use Rattle.site.specs.declared.Checked.TheVariants.{Passed}
+use Rattle.std.specs.Prelude.{Ok}
 use Rattle.site.specs.Check.{site_rule}
 use Rattle.site.specs.Values.{due}
 use Rattle.site.proofs.FieldLaws.{site_passed}
@@ -15,8 +15,9 @@ use Rattle.field.specs.Kind.{Kind}
 use Rattle.record.specs.Fields.{encode_fields, encode_as}
 use Rattle.field.specs.Clean.{Sized}
 use Rattle.record.specs.Writer.{encode}
-use Rattle.output.specs.Writing.{Wrote, each}
-use Rattle.output.proofs.WritingLaws.{then}
+use Rattle.output.specs.Writing.{Wrote, WroteIf}
+use Rattle.output.proofs.WritingLaws.{then, kept}
+use Rattle.record.proofs.Tags.{tags_from, tags_more}
 use Rattle.field.proofs.FieldValueLaws.{name_counts, name_long, stand_counts, bytes_long}
 
 -- head, then value: the field
@@ -25,41 +26,51 @@ pub field_wrote : {l b c : List ℕ} {at n q r : ℕ} (t : ℕ) (v : List ℕ) �
 unfolding field_of
 field_wrote {n = n} t v e h w = rw e at (then h w)
 
+-- the same by a call that puts the value where there is room
+pub field_put : {l b c : List ℕ} {at n q r : ℕ} (t : ℕ) (v w : List ℕ) → at + length (field_of t v) ≤ length l → w ≡ v → n ≡ length w
+    → Wrote l at (t ∷ (n / 256) ∷ (n % 256) ∷ []) b q → WroteIf b q w c r → Wrote l at (field_of t v) c r
+unfolding field_of
+field_put {n = n} t v w h same e head put =
+    let len : n ≡ length v = e ∙ ap length same in
+    field_wrote t v len head (rw same at (put.fits (omega (arith, h, head.next, kept head, ap length same))))
+
+pub fields_long : {A : Type 0} (K : Kind A) (x : A) (t : ℕ) → t ≤ 15
+    → length (encode_fields K (tags_from t) x) ≡ length (field_of t (K.bytes t x)) + length (encode_fields K (tags_from (t + 1)) x)
+unfolding encode_fields
+fields_long K x t h = rw (tags_more t h) (length-append (field_of t (K.bytes t x)) (encode_fields K (tags_from (t + 1)) x))
+
+-- a field, then the others
+pub fields_more : {A : Type 0} (K : Kind A) (x : A) {l b c : List ℕ} {at q r : ℕ} (t : ℕ) → t ≤ 15
+    → Wrote l at (field_of t (K.bytes t x)) b q → Wrote b q (encode_fields K (tags_from (t + 1)) x) c r → Wrote l at (encode_fields K (tags_from t) x) c r
+unfolding encode_fields
+fields_more K x t h v w = rw (tags_more t h) (then v w)
+
 module _ {A : Type 0} (K : Kind A) (s : A) where
-  abbrev pub field_at : ℕ → List ℕ
-  field_at t = field_of t (K.bytes t s)
-
-  -- the fields, one after another
-  pub fields_each : (ts : List ℕ) → encode_fields K ts s ≡ each field_at ts
-  unfolding encode_fields each
-  fields_each [] = refl
-  fields_each (t ∷ ts) = ap (λ (l : List ℕ). field_at t ++ l) (fields_each ts)
-
-  pub length-encode : length (encode_as K s) ≡ 3 + length (encode_fields K K.due s)
+  pub encode_length : length (encode_as K s) ≡ 3 + length (encode_fields K K.due s)
   unfolding encode_as field_of
-  length-encode = omega arith
+  encode_length = omega arith
 
-  -- head, then value: the record
-  pub encode_wrote : {l b c : List ℕ} {at n q r : ℕ} → n ≡ length (encode_fields K K.due s)
-      → Wrote l at (K.tag ∷ (n / 256) ∷ (n % 256) ∷ []) b q → Wrote b q (encode_fields K K.due s) c r → Wrote l at (encode_as K s) c r
-  unfolding encode_as
-  encode_wrote e v w = field_wrote K.tag (encode_fields K K.due s) e v w
+-- head, then fields: the record
+pub record_wrote : {l b c : List ℕ} {at n q r : ℕ} (s : Site) → n ≡ length (encode_fields site_kind due s)
+    → Wrote l at (82 ∷ (n / 256) ∷ (n % 256) ∷ []) b q → Wrote b q (encode_fields site_kind due s) c r → Wrote l at (encode s) c r
+unfolding encode_as
+record_wrote s e v w = field_wrote 82 (encode_fields site_kind due s) e v w
 
 -- 15 heads, 24 bytes of values of one length, the name and the entries
 fields_length : (s : Site) → length (encode_fields site_kind due s)
-    ≡ 69 + length (take s.name_len s.name) + length (entries_bytes (take s.entries s.stand))
+    ≡ 69 + length (take s.name.len s.name.bytes) + length (entries_bytes (take s.stand.count s.stand.entries))
 unfolding encode_fields value field_of
 fields_length s = simp length-append (omega arith)
 
-module _ (s : Site) (z : Sized s) (e : site_rule s ≡ Passed) where
-  pub record_length : length (encode s) ≡ 3 + (69 + s.name_len + 4 * s.entries)
+module _ (s : Site) (z : Sized s) (e : site_rule s ≡ Ok tt) where
+  pub record_length : length (encode s) ≡ 3 + (69 + s.name.len + 4 * s.stand.count)
   record_length =
       let n = name_long s z (site_passed s e 0 (omega arith)).0 in
       let b = bytes_long s z (site_passed s e 6 (omega arith)).0 in
-      omega (arith, length-encode site_kind s, fields_length s)
+      omega (arith, encode_length site_kind s, fields_length s)
 
   pub fields_small : length (encode_fields site_kind due s) ≤ 255
   fields_small =
       let n = name_counts s z (site_passed s e 0 (omega arith)).0 in
       let b = stand_counts s z (site_passed s e 6 (omega arith)).0 in
-      omega (arith, length-encode site_kind s, record_length)
+      omega (arith, encode_length site_kind s, record_length)

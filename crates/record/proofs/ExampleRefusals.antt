@@ -8,7 +8,6 @@ use Rattle.site.specs.Refusal.{and_then}
 use Rattle.site.specs.Check.{fields_rule, site_rule}
 use Rattle.site.specs.Bytes.{tabulate, entry_at}
 use Rattle.site.specs.Values.{length_permitted, item_count, count_rule, value_rule, stand_rule, between, name_byte, entry_ranged, rising_from, shares_of}
-use Rattle.std.specs.List.{list_all}
 use Rattle.field.specs.Field.{store, entries_bytes, blank_site, value}
 use Rattle.field.specs.Kind.{field_rule}
 use Rattle.output.specs.Output.{room_rule, output_rule, output_numbers}
@@ -16,7 +15,7 @@ use Rattle.record.specs.FieldParts.{field_of}
 use Rattle.record.specs.Result.{result_numbers, unless}
 use Rattle.record.specs.Fields.{head_rule, walk_fields, encode_fields, encode_as}
 use Rattle.record.specs.Records.{outer_rule, ending, record_in, only_one, single}
-use Rattle.record.specs.Outer.{site_at, only_site}
+use Rattle.record.specs.Outer.{site_at, read_record}
 use Rattle.record.specs.Writer.{write_rule}
 use Rattle.record.proofs.ExampleRecord.{bytes_a1}
 
@@ -56,8 +55,8 @@ refusals =
     ∷ record { bytes = 82 ∷ 0 ∷ 38 ∷ to_stand ++ 7 ∷ 0 ∷ 8 ∷ 1 ∷ 50 ∷ 7 ∷ 208 ∷ 1 ∷ 49 ∷ 7 ∷ 208 ∷ []; given = (9, 30) }  -- the order, then the shares
     ∷ []
 
-refusals_agree : map (λ (r : Refusal). result_numbers (only_site r.bytes)) refusals ≡ map (λ (r : Refusal). r.given) refusals
-unfolding result_numbers single only_one site_at record_in ending outer_rule head_rule unless walk_fields field_rule length_permitted tabulate entry_at store value_rule stand_rule between name_byte entry_ranged rising_from shares_of blank_site
+refusals_agree : map (λ (r : Refusal). result_numbers (read_record r.bytes)) refusals ≡ map (λ (r : Refusal). r.given) refusals
+unfolding result_numbers read_record single only_one site_at record_in ending outer_rule head_rule unless walk_fields field_rule length_permitted tabulate entry_at store value_rule stand_rule between name_byte entry_ranged rising_from shares_of blank_site
 refusals_agree = refl
 
 -- A1 has 78 bytes, and 77 are lent

@@ -9,25 +9,25 @@ use borrow.Author.Tests.{le-leb, lt-leb, leb-true, leb-false, eq-eqb, ne_eqb}
 use lib.Dec.{leb}
 use lib.ListN.{length, take, drop, length-take, length-drop, length-append, drop_of_length-le, take-append-drop}
 use lib.Seq.{drop-drop, drop_at}
+use Rattle.std.specs.Prelude.{Result, Ok, Err}
 use Rattle.output.specs.Writing.{each}
 use Rattle.site.specs.Choice.{pick}
 use Rattle.site.proofs.Tests.{le_or_lt}
+use Rattle.site.specs.declared.Refusal.{Refusal}
 use Rattle.site.specs.declared.Rule.TheVariants.{NoBytes, TooMany}
-use Rattle.record.specs.Result.{Result, good, fault}
 use Rattle.record.specs.File.{Contents, first, onto, walk_file, contents_by, alone}
 use Rattle.record.specs.Records.{only_one, single}
 use Rattle.field.proofs.All.{All, none, ◌▸◌}
-use Rattle.record.proofs.ResultLaws.{not_good, good_same}
 
 -- ---- a record at a time
 
-module _ {A : Type 0} (read : ℕ → Result (A × ℕ)) (len : ℕ) where
-  pub file_end : (n at : ℕ) → len ≤ at → walk_file read len n at ≡ good []
+module _ {A : Type 0} (read : ℕ → Result (A × ℕ) Refusal) (len : ℕ) where
+  pub file_end : (n at : ℕ) → len ≤ at → walk_file read len n at ≡ Ok []
   unfolding walk_file
   file_end zero at h = rw (le-leb len at h)
   file_end (suc n) at h = rw (le-leb len at h)
 
-  pub file_full : (at : ℕ) → at < len → walk_file read len zero at ≡ fault TooMany at
+  pub file_full : (at : ℕ) → at < len → walk_file read len zero at ≡ Err (record { rule = TooMany; at = at })
   unfolding walk_file
   file_full at h = rw (lt-leb len at h)
 
@@ -35,7 +35,7 @@ module _ {A : Type 0} (read : ℕ → Result (A × ℕ)) (len : ℕ) where
   unfolding walk_file
   file_step n at h = rw (lt-leb len at h)
 
-  pub contents_none : (most : ℕ) → len ≤ 0 → contents_by most read len ≡ fault NoBytes 0
+  pub contents_none : (most : ℕ) → len ≤ 0 → contents_by most read len ≡ Err (record { rule = NoBytes; at = 0 })
   unfolding contents_by
   contents_none most h = rw (le-leb len 0 h)
 
@@ -46,62 +46,62 @@ module _ {A : Type 0} (read : ℕ → Result (A × ℕ)) (len : ℕ) where
 -- ---- a walk that passes: its end, or a record and what follows it
 
 module _ {A : Type 0} where
-  pub record Onto (q : Result (A × ℕ)) (more : ℕ → Contents A) (xs : List A) : Type 0 where
+  pub record Onto (q : Result (A × ℕ) Refusal) (more : ℕ → Contents A) (xs : List A) : Type 0 where
     pub found : A × ℕ
     pub rest : List A
-    pub reads : q ≡ good found
-    pub goes_on : more found.1 ≡ good rest
+    pub reads : q ≡ Ok found
+    pub goes_on : more found.1 ≡ Ok rest
     pub is : xs ≡ found.0 ∷ rest
 
-  onto_good : (q : Result (A × ℕ)) (more : ℕ → Contents A) (xs : List A) → onto q more ≡ good xs → Onto q more xs
+  onto_ok : (q : Result (A × ℕ) Refusal) (more : ℕ → Contents A) (xs : List A) → onto q more ≡ Ok xs → Onto q more xs
   unfolding onto first
-  onto_good (fault rule at) more xs e = not_good e
-  onto_good (good x) more xs e = by_rest (more x.1) refl e
+  onto_ok (Err r) more xs e = cc
+  onto_ok (Ok x) more xs e = by_rest (more x.1) refl e
     where
-      by_rest : (c : Contents A) → more x.1 ≡ c → first x.0 c ≡ good xs → Onto (good x) more xs
-      by_rest (good ys) m e = record { found = x; rest = ys; reads = refl; goes_on = m; is = sym (good_same e) }
-      by_rest (fault rule at) m e = not_good e
+      by_rest : (c : Contents A) → more x.1 ≡ c → first x.0 c ≡ Ok xs → Onto (Ok x) more xs
+      by_rest (Ok ys) m e = record { found = x; rest = ys; reads = refl; goes_on = m; is = cc }
+      by_rest (Err r) m e = cc
 
-  pick_good : (b : Bool) {c : Contents A} {xs : List A} (P : Type 0) → pick b (good []) c ≡ good xs → (b ≡ true → [] ≡ xs → P) → (b ≡ false → c ≡ good xs → P) → P
-  pick_good true P e end more = end refl (good_same e)
-  pick_good false P e end more = more refl e
+  pick_ok : (b : Bool) {c : Contents A} {xs : List A} (P : Type 0) → pick b (Ok []) c ≡ Ok xs → (b ≡ true → [] ≡ xs → P) → (b ≡ false → c ≡ Ok xs → P) → P
+  pick_ok true P e end more = end refl cc
+  pick_ok false P e end more = more refl e
 
-module _ {A : Type 0} (read : ℕ → Result (A × ℕ)) (len : ℕ) where
+module _ {A : Type 0} (read : ℕ → Result (A × ℕ) Refusal) (len : ℕ) where
   -- P of the list xs that a walk gave: shown for the end, and for a record and what follows it
   pub file_by : (P : ℕ → ℕ → List A → Type 0) → ((n at : ℕ) → len ≤ at → P n at [])
-      → ((n at : ℕ) (x : A × ℕ) (xs : List A) → at < len → read at ≡ good x → P n x.1 xs → P (suc n) at (x.0 ∷ xs))
-      → (n at : ℕ) (xs : List A) → walk_file read len n at ≡ good xs → P n at xs
+      → ((n at : ℕ) (x : A × ℕ) (xs : List A) → at < len → read at ≡ Ok x → P n x.1 xs → P (suc n) at (x.0 ∷ xs))
+      → (n at : ℕ) (xs : List A) → walk_file read len n at ≡ Ok xs → P n at xs
   unfolding walk_file
   file_by P end more zero at xs e =
-      pick_good (leb len at) (P zero at xs) e (λ t q. subst (P zero at) q (end zero at (leb-true len at t))) (λ t q. not_good q)
+      pick_ok (leb len at) (P zero at xs) e (λ t q. subst (P zero at) q (end zero at (leb-true len at t))) (λ t q. cc)
   file_by P end more (suc n) at xs e =
-      pick_good (leb len at) (P (suc n) at xs) e
+      pick_ok (leb len at) (P (suc n) at xs) e
       (λ t q. subst (P (suc n) at) q (end (suc n) at (leb-true len at t)))
       (λ t q.
-      let o = onto_good (read at) (λ after. walk_file read len n after) xs q in
+      let o = onto_ok (read at) (λ after. walk_file read len n after) xs q in
       subst (P (suc n) at) (sym o.is) (more n at o.found o.rest (leb-false len at t) o.reads (file_by P end more n o.found.1 o.rest o.goes_on)))
 
-  contents_walked : (most : ℕ) (xs : List A) → contents_by most read len ≡ good xs → walk_file read len most 0 ≡ good xs
+  contents_walked : (most : ℕ) (xs : List A) → contents_by most read len ≡ Ok xs → walk_file read len most 0 ≡ Ok xs
   unfolding contents_by
-  contents_walked most xs e = go (leb len 0) e
+  contents_walked most xs e = go (leb len 0) _ e
     where
-      go : (b : Bool) → pick b (fault NoBytes 0) (walk_file read len most 0) ≡ good xs → walk_file read len most 0 ≡ good xs
-      go true e = not_good e
-      go false e = e
+      go : (b : Bool) (r : Refusal) → pick b (Err r) (walk_file read len most 0) ≡ Ok xs → walk_file read len most 0 ≡ Ok xs
+      go true r e = cc
+      go false r e = e
 
   -- what each record that is read has, all values have that a file holds; they are at most `most`
-  pub contents_every : (P : A → Type 0) → ((at : ℕ) (x : A × ℕ) → read at ≡ good x → P x.0)
-      → (most : ℕ) (xs : List A) → contents_by most read len ≡ good xs → (length xs ≤ most) × All P xs
+  pub contents_every : (P : A → Type 0) → ((at : ℕ) (x : A × ℕ) → read at ≡ Ok x → P x.0)
+      → (most : ℕ) (xs : List A) → contents_by most read len ≡ Ok xs → (length xs ≤ most) × All P xs
   contents_every P each most xs e =
       file_by (λ n at xs. (length xs ≤ n) × All P xs) (λ n at h. (omega arith, none)) (λ n at x xs h r p. (omega (arith, p.0), each at x r ▸ p.1)) most 0 xs (contents_walked most xs e)
 
 -- ---- the file of at most one record
 
-module _ {A : Type 0} (read : ℕ → Result (A × ℕ)) (len : ℕ) (inside : (x : A × ℕ) → read 0 ≡ good x → x.1 ≤ len) where
-  only_is : (q : Result (A × ℕ)) → ((x : A × ℕ) → q ≡ good x → x.1 ≤ len) → onto q (walk_file read len zero) ≡ alone (only_one len q)
+module _ {A : Type 0} (read : ℕ → Result (A × ℕ) Refusal) (len : ℕ) (inside : (x : A × ℕ) → read 0 ≡ Ok x → x.1 ≤ len) where
+  only_is : (q : Result (A × ℕ) Refusal) → ((x : A × ℕ) → q ≡ Ok x → x.1 ≤ len) → onto q (walk_file read len zero) ≡ alone (only_one len q)
   unfolding onto first alone only_one walk_file
-  only_is (fault rule at) inside = refl
-  only_is (good x) inside =
+  only_is (Err r) inside = refl
+  only_is (Ok x) inside =
       ⊎_elim
       (λ (past : len ≤ x.1). let end : x.1 ≡ len = omega (arith, inside x refl) in rw (le-leb len x.1 past, eq-eqb x.1 len end))
       (λ (more : x.1 < len). let before : x.1 ≡ len → ⊥ = λ end. omega arith in rw (lt-leb len x.1 more, ne_eqb x.1 len before))
@@ -129,14 +129,14 @@ leb-take n m f h = go (leb (length f) n) refl
     go false e = lt-leb (length (take m f)) n (omega (arith, length-take m f, leb-false (length f) n e)) ∙ sym e
 
 -- what follows a refused record does not matter
-onto_same : {A : Type 0} (q : Result (A × ℕ)) (c d : ℕ → Contents A) → ((x : A × ℕ) → q ≡ good x → c x.1 ≡ d x.1) → onto q c ≡ onto q d
+onto_same : {A : Type 0} (q : Result (A × ℕ) Refusal) (c d : ℕ → Contents A) → ((x : A × ℕ) → q ≡ Ok x → c x.1 ≡ d x.1) → onto q c ≡ onto q d
 unfolding onto
-onto_same (fault rule at) c d h = refl
-onto_same (good x) c d h = ap (first x.0) (h x refl)
+onto_same (Err r) c d h = refl
+onto_same (Ok x) c d h = ap (first x.0) (h x refl)
 
 -- a reader that looks at no more than w bytes of a record, and whose records are no longer
-module _ {A : Type 0} (read : List ℕ → ℕ → Result (A × ℕ)) (w : ℕ) (local : (m at : ℕ) (f : List ℕ) → at + w ≤ m → read (take m f) at ≡ read f at)
-    (near : (f : List ℕ) (at : ℕ) (x : A × ℕ) → read f at ≡ good x → x.1 ≤ at + w) where
+module _ {A : Type 0} (read : List ℕ → ℕ → Result (A × ℕ) Refusal) (w : ℕ) (local : (m at : ℕ) (f : List ℕ) → at + w ≤ m → read (take m f) at ≡ read f at)
+    (near : (f : List ℕ) (at : ℕ) (x : A × ℕ) → read f at ≡ Ok x → x.1 ≤ at + w) where
   file_take : (f : List ℕ) (m n at : ℕ) → at + (w * n + 1) ≤ m → walk_file (read (take m f)) (length (take m f)) n at ≡ walk_file (read f) (length f) n at
   unfolding walk_file
   file_take f m zero at h = rw (leb-take at m f (omega arith))
@@ -153,9 +153,9 @@ module _ {A : Type 0} (read : List ℕ → ℕ → Result (A × ℕ)) (w : ℕ) 
 
 -- ---- what was read is written: the file is the records of its values, one after another
 
-module _ {A : Type 0} (read : ℕ → Result (A × ℕ)) (encode : A → List ℕ) (f : List ℕ)
-    (bytes : (at : ℕ) (x : A × ℕ) → read at ≡ good x → (at ≤ x.1) × (encode x.0 ≡ take (x.1 - at) (drop at f))) where
-  pub contents_written : (most : ℕ) (xs : List A) → contents_by most read (length f) ≡ good xs → f ≡ each encode xs
+module _ {A : Type 0} (read : ℕ → Result (A × ℕ) Refusal) (encode : A → List ℕ) (f : List ℕ)
+    (bytes : (at : ℕ) (x : A × ℕ) → read at ≡ Ok x → (at ≤ x.1) × (encode x.0 ≡ take (x.1 - at) (drop at f))) where
+  pub contents_written : (most : ℕ) (xs : List A) → contents_by most read (length f) ≡ Ok xs → f ≡ each encode xs
   unfolding each
   contents_written most xs e =
       file_by read (length f) (λ n at xs. drop at f ≡ each encode xs)
@@ -169,11 +169,11 @@ module _ {A : Type 0} (read : ℕ → Result (A × ℕ)) (encode : A → List �
 
 -- ---- what was written is read: values, encoded one after another
 
-module _ {A : Type 0} (read : List ℕ → ℕ → Result (A × ℕ)) (encode : A → List ℕ) (clean : A → A) (Ok : A → Type 0)
+module _ {A : Type 0} (read : List ℕ → ℕ → Result (A × ℕ) Refusal) (encode : A → List ℕ) (clean : A → A) (Fit : A → Type 0)
     (some : (x : A) → 1 ≤ length (encode x))
-    (reads : (x : A) → Ok x → (f : List ℕ) (at : ℕ) (rest : List ℕ) → drop at f ≡ encode x ++ rest → read f at ≡ good (clean x, at + length (encode x))) where
-  file_read : (f : List ℕ) (xs : List A) → All Ok xs → (n at : ℕ) → length xs ≤ n → drop at f ≡ each encode xs
-      → walk_file (read f) (length f) n at ≡ good (map clean xs)
+    (reads : (x : A) → Fit x → (f : List ℕ) (at : ℕ) (rest : List ℕ) → drop at f ≡ encode x ++ rest → read f at ≡ Ok (clean x, at + length (encode x))) where
+  file_read : (f : List ℕ) (xs : List A) → All Fit xs → (n at : ℕ) → length xs ≤ n → drop at f ≡ each encode xs
+      → walk_file (read f) (length f) n at ≡ Ok (map clean xs)
   unfolding each onto first
   file_read f [] none n at l e = file_end (read f) (length f) n at (omega (arith, length-drop at f, ap length e))
   file_read f (x ∷ xs) (p ▸ ps) zero at l e = absurd (omega arith)
@@ -183,8 +183,8 @@ module _ {A : Type 0} (read : List ℕ → ℕ → Result (A × ℕ)) (encode : 
       let d : drop (at + length (encode x)) f ≡ rest = sym (drop-drop (length (encode x)) at f) ∙ rw e (drop_at (encode x) rest (length (encode x)) refl) in
       rw (file_step (read f) (length f) n at (omega (arith, length-drop at f, some x)), reads x p f at rest e, file_read f xs ps n (at + length (encode x)) (omega arith) d)
 
-  pub contents_read : (most : ℕ) (xs : List A) → All Ok xs → 1 ≤ length xs → length xs ≤ most
-      → contents_by most (read (each encode xs)) (length (each encode xs)) ≡ good (map clean xs)
+  pub contents_read : (most : ℕ) (xs : List A) → All Fit xs → 1 ≤ length xs → length xs ≤ most
+      → contents_by most (read (each encode xs)) (length (each encode xs)) ≡ Ok (map clean xs)
   unfolding each
   contents_read most [] ps h l = absurd (omega arith)
   contents_read most (x ∷ xs) ps h l =

@@ -1,24 +1,21 @@
 -- What a site's record says that was accepted in a file.
-use mathlib.Core.Path.{◌≡◌, refl, ap, ◌∙◌}
+use mathlib.Core.Path.{◌≡◌, refl, sym, ap, ◌∙◌}
 use mathlib.Core.List.{List, ◌++◌}
 use Prim.Native.Nat.{ℕ, ◌+◌, ◌-◌, ◌≤◌}
-use native.Mathlib.Omega.{arith}
 use lib.ListN.{length, get_or, take, drop}
 use borrow.Author.Tests.{eqb-true}
+use Rattle.std.specs.Prelude.{Result, Ok, Err, IfOk}
 use Rattle.site.specs.declared.Site.{Site}
-use Rattle.site.specs.declared.Rule.{Rule}
-use Rattle.site.specs.declared.Checked.TheVariants.{Passed}
+use Rattle.site.specs.declared.Refusal.{Refusal}
 use Rattle.site.specs.Check.{site_rule}
 use Rattle.record.specs.declared.Found.{Found}
-use Rattle.record.specs.declared.Outcome.TheVariants.{Accepted, Refused}
-use Rattle.record.specs.Result.{Result, good, fault, result_numbers}
+use Rattle.record.specs.Result.{result_numbers}
 use Rattle.field.specs.Field.{site_kind}
 use Rattle.record.specs.Records.{most_record, record_in}
-use Rattle.record.specs.Outer.{outcome_numbers, site_tag, site_kinds, site_at, found_of, record_at}
+use Rattle.record.specs.Outer.{site_tag, site_kinds, site_at, found_of, record_at}
 use Rattle.field.specs.Clean.{clean, Sized, AllBytes}
 use Rattle.record.specs.Writer.{encode, WritesAgain}
 use Rattle.record.proofs.EncodeLaws.{fields_small}
-use Rattle.record.proofs.ResultLaws.{found_numbers}
 use Rattle.record.proofs.OuterLaws.{site_past}
 use Rattle.record.proofs.RecordLaws.{AcceptedAt, accepted_at, record_after, record_inside, record_near, record_take, record_written, record_read}
 use Rattle.record.proofs.FirstFaultLaws.{record_fault_near}
@@ -30,11 +27,11 @@ pub site_take : (m at : ℕ) (f : List ℕ) → at + most_record ≤ m → site_
 unfolding site_at
 site_take m at f h = record_take site_tag site_kinds m at f h
 
-pub site_fault_near : (f : List ℕ) (at : ℕ) {rule : Rule} {i : ℕ} → site_at f at ≡ fault rule i → i ≤ at + most_record
+pub site_fault_near : (f : List ℕ) (at : ℕ) {r : Refusal} → site_at f at ≡ Err r → r.at ≤ at + most_record
 unfolding site_at
 site_fault_near f at e = record_fault_near site_tag site_kinds (drop at f) at e
 
-module _ (f : List ℕ) (at : ℕ) {x : Site × ℕ} (e : site_at f at ≡ good x) where
+module _ (f : List ℕ) (at : ℕ) {x : Site × ℕ} (e : site_at f at ≡ Ok x) where
   here : AcceptedAt site_tag site_kinds (drop at f) at x
   unfolding site_at
   here = accepted_at site_tag site_kinds f at e
@@ -51,7 +48,7 @@ module _ (f : List ℕ) (at : ℕ) {x : Site × ℕ} (e : site_at f at ≡ good 
   unfolding site_at
   site_near = record_near site_tag site_kinds f at e
 
-  pub site_passes : site_rule x.0 ≡ Passed
+  pub site_passes : site_rule x.0 ≡ Ok tt
   site_passes = walked_passes _ _ _ here.walked
 
   pub site_clean : clean x.0 ≡ x.0
@@ -64,39 +61,50 @@ module _ (f : List ℕ) (at : ℕ) {x : Site × ℕ} (e : site_at f at ≡ good 
       let tag : get_or (drop at f) 0 0 ≡ 82 = eqb-true _ _ here.outer.tag in
       record_written site_tag site_kinds f at e b site_kind refl (rw tag) (λ bs a c w. encode_read x.0 bs a w c)
 
+  pub site_writes_again : AllBytes f → WritesAgain x.0 (take (x.1 - at) (drop at f))
+  site_writes_again b = record { passes = site_passes; bytes = site_bytes b }
+
 -- a site that passes is read again from its record, whatever follows it, with zeros past its name and its entries
-pub site_read : (s : Site) → Sized s → site_rule s ≡ Passed → (rest : List ℕ) (at : ℕ)
-    → record_in site_tag site_kinds (encode s ++ rest) at ≡ good (clean s, at + length (encode s))
+pub site_read : (s : Site) → Sized s → site_rule s ≡ Ok tt → (rest : List ℕ) (at : ℕ)
+    → record_in site_tag site_kinds (encode s ++ rest) at ≡ Ok (clean s, at + length (encode s))
 site_read s z e rest at = record_read site_tag site_kinds site_kind s (clean s) rest at refl refl (fields_small s z e) (read_encode s z e (at + 3))
 
 -- ---- by what the call gives
 
-good_found : (at : ℕ) (q : Result (Site × ℕ)) → (found_of at q).outcome ≡ Accepted → q ≡ good ((found_of at q).site, (found_of at q).next)
+ok_found : (q : Result (Site × ℕ) Refusal) {x : Found} → found_of q ≡ Ok x → q ≡ Ok (x.site, x.next)
 unfolding found_of
-good_found at (good x) o = refl
-good_found at (fault r i) o = let z : ◌≡◌ {A = ℕ} 0 1 = cc in absurd (omega arith)
+ok_found (Ok y) {x} e = let is : record { site = y.0; next = y.1 } ≡ x = cc in rw (← is)
+ok_found (Err r) e = cc
 
-fault_found : (at : ℕ) (q : Result (Site × ℕ)) {r : Rule} {i : ℕ} → (found_of at q).outcome ≡ Refused r i → q ≡ fault r i
+err_found : (q : Result (Site × ℕ) Refusal) {r : Refusal} → found_of q ≡ Err r → q ≡ Err r
 unfolding found_of
-fault_found at (good x) o = let z : ◌≡◌ {A = ℕ} 0 1 = cc in absurd (omega arith)
-fault_found at (fault r i) o = cc
+err_found (Ok y) e = cc
+err_found (Err k) e = cc
+
+found_numbers : (q : Result (Site × ℕ) Refusal) → result_numbers (found_of q) ≡ result_numbers q
+unfolding found_of result_numbers
+found_numbers (Ok x) = refl
+found_numbers (Err r) = refl
 
 module _ (f : List ℕ) (at : ℕ) where
-  pub record_good : (record_at f at).outcome ≡ Accepted → site_at f at ≡ good ((record_at f at).site, (record_at f at).next)
-  unfolding record_at
-  record_good o = good_found at (site_at f at) o
+  pub record_ok : {x : Found} → record_at f at ≡ Ok x → site_at f at ≡ Ok (x.site, x.next)
+  record_ok e = ok_found (site_at f at) e
 
-  pub record_fault : {r : Rule} {i : ℕ} → (record_at f at).outcome ≡ Refused r i → site_at f at ≡ fault r i
-  unfolding record_at
-  record_fault o = fault_found at (site_at f at) o
+  pub record_err : {r : Refusal} → record_at f at ≡ Err r → site_at f at ≡ Err r
+  record_err e = err_found (site_at f at) e
+
+  found_again : (q : Result Found Refusal) → AllBytes f → record_at f at ≡ q → IfOk q (λ x. WritesAgain x.site (take (x.next - at) (drop at f)))
+  found_again (Ok x) b e = site_writes_again f at (record_ok e) b
+  found_again (Err r) b e = tt
 
   -- the reader's promises follow from its answer
-  pub found_answers : (x : Found) → AllBytes f → x ≡ record_at f at
-      → (x ≡ record_at f at)
-      × ((outcome_numbers x.outcome ≡ result_numbers (site_at f at))
-      × ((length f ≤ at → outcome_numbers x.outcome ≡ (2, at))
-      × (x.outcome ≡ Accepted → WritesAgain x.site (take (x.next - at) (drop at f)))))
-  unfolding record_at result_numbers
-  found_answers x b e =
-      let numbers : outcome_numbers x.outcome ≡ result_numbers (site_at f at) = ap (λ (z : Found). outcome_numbers z.outcome) e ∙ found_numbers at (site_at f at) in
-      (e, (numbers, (λ past. numbers ∙ rw (site_past f at past), λ o. rw e (let g = record_good (rw e at o) in record { passes = site_passes f at g; bytes = site_bytes f at g b }))))
+  pub found_answers : (q : Result Found Refusal) → AllBytes f → record_at f at ≡ q → record {
+    answer : q ≡ record_at f at;
+    numbers : result_numbers q ≡ result_numbers (site_at f at);
+    nothing_there : length f ≤ at → result_numbers q ≡ (2, at);
+    written_again : IfOk q (λ x. WritesAgain x.site (take (x.next - at) (drop at f)));
+  }
+  unfolding result_numbers
+  found_answers q b e =
+      let numbers : result_numbers q ≡ result_numbers (site_at f at) = ap result_numbers (sym e) ∙ found_numbers (site_at f at) in
+      record { answer = sym e; numbers = numbers; nothing_there = λ past. numbers ∙ rw (site_past f at past); written_again = found_again q b e }

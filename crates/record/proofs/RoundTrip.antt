@@ -1,51 +1,53 @@
 -- Reading and writing undo each other.
 use mathlib.Core.Path.{◌≡◌, sym, ap, ◌∙◌}
+use mathlib.Core.Bool.{true, false}
 use mathlib.Core.List.{List, [], append-nil}
 use Prim.Native.Nat.{ℕ, ◌+◌, ◌-◌, ◌≤◌}
 use native.Mathlib.Omega.{arith}
+use lib.Dec.{eqb}
 use lib.ListN.{length, take}
 use lib.Seq.{take_all}
+use borrow.Author.Tests.{ne_eqb, eq-eqb}
+use Rattle.std.specs.Prelude.{Result, Ok, Err, IfOk}
 use Rattle.site.specs.declared.Site.{Site}
-use Rattle.site.specs.declared.Rule.{Rule}
-use Rattle.site.specs.declared.Checked.TheVariants.{Passed}
+use Rattle.site.specs.declared.Refusal.{Refusal}
+use Rattle.site.specs.declared.Rule.TheVariants.{NoBytes, TooMany}
 use Rattle.site.specs.Check.{site_rule}
 use Rattle.field.specs.Field.{site_kind}
 use Rattle.field.specs.Clean.{clean, Sized, AllBytes}
-use Rattle.record.specs.declared.Read.{Read}
-use Rattle.record.specs.declared.Outcome.{Outcome}
-use Rattle.record.specs.declared.Outcome.TheVariants.{Accepted, Refused}
-use Rattle.record.specs.Result.{good, result_numbers}
-use Rattle.record.specs.ReadAnswers.{accepted}
-use Rattle.record.specs.Records.{most_record, record_in}
-use Rattle.record.specs.Outer.{outcome_numbers, site_tag, site_kinds, site_at, only_site, read_record}
+use Rattle.record.specs.Result.{result_numbers}
+use Rattle.record.specs.declared.Found.{Found}
+use Rattle.record.specs.Records.{most_record, record_in, only_one, single}
+use Rattle.record.specs.Outer.{site_tag, site_kinds, site_at, record_at, read_record}
+use Rattle.record.specs.File.{alone}
 use Rattle.record.specs.Writer.{encode, WritesAgain}
-use Rattle.record.proofs.EncodeLaws.{length-encode}
-use Rattle.record.proofs.ResultLaws.{read_good, accepted_good, refused_fault, read_numbers}
-use Rattle.record.proofs.RecordLaws.{single_good, good_single}
-use Rattle.record.proofs.Place.{site_near, site_passes, site_clean, site_bytes, site_read}
-use Rattle.record.proofs.SiteFile.{single_fault_near}
+use Rattle.record.proofs.EncodeLaws.{encode_length}
+use Rattle.record.proofs.RecordLaws.{single_ok, ok_single}
+use Rattle.record.proofs.Place.{record_ok, record_err, site_fault_near, site_near, site_passes, site_clean, site_bytes, site_read}
+use Rattle.record.proofs.FirstFaultLaws.{file_fault_near}
+use Rattle.record.proofs.SiteFile.{single_is}
 
 -- ---- what is written is read
 
 -- a site that passes is read again from its record, with zeros past its name and its entries
-pub read_written : (s : Site) → Sized s → site_rule s ≡ Passed → read_record (encode s) ≡ accepted (clean s)
+pub read_written : (s : Site) → Sized s → site_rule s ≡ Ok tt → read_record (encode s) ≡ Ok (clean s)
 unfolding read_record site_at
 read_written s z e =
     let bs = encode s in
-    let some : 1 ≤ length bs = omega (arith, length-encode site_kind s) in
+    let some : 1 ≤ length bs = omega (arith, encode_length site_kind s) in
     let end : 0 + length bs ≡ length bs = omega arith in
-    let q : record_in site_tag site_kinds bs 0 ≡ good (clean s, length bs) = rw (append-nil, end) at (site_read s z e [] 0) in
-    read_good (good_single (site_at bs) (length bs) some q)
+    let q : record_in site_tag site_kinds bs 0 ≡ Ok (clean s, length bs) = rw (append-nil, end) at (site_read s z e [] 0) in
+    ok_single (site_at bs) (length bs) some q
 
 -- ---- what is read is written
 
-module _ (s : Site) (f : List ℕ) (e : read_record f ≡ accepted s) where
-  found_first : site_at f 0 ≡ good (s, length f)
+module _ (s : Site) (f : List ℕ) (e : read_record f ≡ Ok s) where
+  found_first : site_at f 0 ≡ Ok (s, length f)
   unfolding read_record
-  found_first = single_good (site_at f) (length f) (accepted_good _ e)
+  found_first = single_ok (site_at f) (length f) e
 
   -- a site that was read passes the check, and past the name and the entries stand zeros
-  pub read_passes : site_rule s ≡ Passed
+  pub read_passes : site_rule s ≡ Ok tt
   read_passes = site_passes f 0 found_first
 
   pub read_clean : clean s ≡ s
@@ -62,28 +64,45 @@ module _ (s : Site) (f : List ℕ) (e : read_record f ≡ accepted s) where
   writes_again b = record { passes = read_passes; bytes = written_read b }
 
 -- two different records never read to one site
-pub read_injective : (s : Site) (f g : List ℕ) → AllBytes f → AllBytes g → read_record f ≡ accepted s → read_record g ≡ accepted s → f ≡ g
+pub read_injective : (s : Site) (f g : List ℕ) → AllBytes f → AllBytes g → read_record f ≡ Ok s → read_record g ≡ Ok s → f ≡ g
 read_injective s f g b c p q = sym (written_read s f p b) ∙ written_read s g q c
+
+-- a file that is read is one record of at most 258 bytes, and no fault lies past that
+pub read_short : (f : List ℕ) {s : Site} → read_record f ≡ Ok s → length f ≤ most_record
+read_short f {s} e = site_near f 0 (found_first s f e)
+
+pub read_fault_near : (f : List ℕ) {r : Refusal} → read_record f ≡ Err r → r.at ≤ most_record
+unfolding alone
+read_fault_near f e =
+    omega (arith, file_fault_near (site_at f) most_record (λ at x r. site_near f at r) (λ at r e. site_fault_near f at e) (length f) 1 (single_is f ∙ ap alone e))
 
 -- ---- the reader's promises follow from its answer
 
-abbrev answer_with : Outcome → Site → Read
-answer_with o s = record { outcome = o; site = s }
+read_again : (f : List ℕ) (q : Result Site Refusal) → AllBytes f → read_record f ≡ q → IfOk q (λ s. WritesAgain s f)
+read_again f (Ok s) b e = writes_again s f e b
+read_again f (Err r) b e = tt
 
-pub accepted_is : (r : Read) → r.outcome ≡ Accepted → r ≡ accepted r.site
-unfolding accepted
-accepted_is r e = ap (λ (o : Outcome). answer_with o r.site) e
+pub read_answers : (f : List ℕ) (q : Result Site Refusal) → AllBytes f → read_record f ≡ q → record {
+  answer : q ≡ read_record f;
+  numbers : result_numbers q ≡ result_numbers (read_record f);
+  written_again : IfOk q (λ s. WritesAgain s f);
+}
+read_answers f q b e = record { answer = sym e; numbers = ap result_numbers (sym e); written_again = read_again f q b e }
 
--- a file that is read is one record of at most 258 bytes, and no fault lies past that
-pub read_short : (f : List ℕ) → (read_record f).outcome ≡ Accepted → length f ≤ most_record
-read_short f o = let e = accepted_is (read_record f) o in omega (arith, site_near f 0 (found_first (read_record f).site f e))
+pub read_none : (f : List ℕ) → eqb (length f) 0 ≡ true → read_record f ≡ Err (record { rule = NoBytes; at = 0 })
+unfolding read_record single
+read_none f e = rw e
 
-pub read_fault_near : (f : List ℕ) {rule : Rule} {at : ℕ} → (read_record f).outcome ≡ Refused rule at → at ≤ most_record
-unfolding read_record
-read_fault_near f o = single_fault_near f (refused_fault (only_site f) o)
+module _ (f : List ℕ) (some : eqb (length f) 0 ≡ false) where
+  pub read_refused : (r : Refusal) → record_at f 0 ≡ Err r → read_record f ≡ Err r
+  unfolding read_record single only_one
+  read_refused r e = rw (some, record_err f 0 e)
 
-pub read_answers : (f : List ℕ) (r : Read) → AllBytes f → r ≡ read_record f
-    → (r ≡ read_record f) × ((outcome_numbers r.outcome ≡ result_numbers (only_site f)) × (r.outcome ≡ Accepted → WritesAgain r.site f))
-unfolding read_record
-read_answers f r b e =
-    (e, (ap (λ (x : Read). outcome_numbers x.outcome) e ∙ read_numbers (only_site f), λ o. writes_again r.site f (sym e ∙ accepted_is r o) b))
+  module _ (x : Found) (e : record_at f 0 ≡ Ok x) where
+    pub read_whole : x.next ≡ length f → read_record f ≡ Ok x.site
+    unfolding read_record single only_one
+    read_whole h = rw (some, record_ok f 0 e, eq-eqb _ _ h)
+
+    pub read_more : (x.next ≡ length f → ⊥) → read_record f ≡ Err (record { rule = TooMany; at = x.next })
+    unfolding read_record single only_one
+    read_more h = rw (some, record_ok f 0 e, ne_eqb _ _ h)

@@ -6,9 +6,9 @@ use Prim.Native.Nat.{ℕ, ◌≤◌}
 use native.Mathlib.Omega.{arith}
 use lib.Dec.{ltb}
 use borrow.Author.Tests.{ltb-true}
-use Rattle.site.specs.declared.Checked.TheVariants.{Passed}
+use Rattle.std.specs.Prelude.{Ok}
 use Rattle.site.proofs.Tests.{and_l, and_r}
-use Rattle.record.specs.Result.{good, unless}
+use Rattle.record.specs.Result.{unless}
 use Rattle.record.specs.FieldParts.{value_at, rest_at}
 use Rattle.record.specs.Fields.{walk_fields, encode_fields}
 use Rattle.field.specs.Clean.{AllBytes}
@@ -28,7 +28,7 @@ module _ {A : Type 0} (K : Kind A) where
   -- ---- what later fields leave stays
 
   pub stays : (P : A → Type 0) (t : ℕ) → ((u : ℕ) (v : List ℕ) (x : A) → (u ≡ t → ⊥) → P x → P (K.store u v x))
-      → (ts : List ℕ) (lo : ℕ) → t ≤ lo → rises lo ts ≡ true → (x s : A) (bs : List ℕ) (at : ℕ) → walk_fields K ts x bs at ≡ good s → P x → P s
+      → (ts : List ℕ) (lo : ℕ) → t ≤ lo → rises lo ts ≡ true → (x s : A) (bs : List ℕ) (at : ℕ) → walk_fields K ts x bs at ≡ Ok s → P x → P s
   stays P t other [] lo h r x s bs at e p = subst P (walk_none K x s bs at e).0 p
   stays P t other (u ∷ ts) lo h r x s bs at e p =
       let q = walk_some K u ts x s bs at e in
@@ -36,7 +36,7 @@ module _ {A : Type 0} (K : Kind A) where
       stays P t other ts u (omega arith) (and_r (ltb lo u) (rises u ts) r) _ s _ _ q.more (other u _ x (λ i. omega arith) p)
 
   pub every : (P : ℕ → A → Type 0) (ts : List ℕ) (lo : ℕ) → rises lo ts ≡ true → All (λ t. Made K (P t) t) ts
-      → (x s : A) (bs : List ℕ) (at : ℕ) → walk_fields K ts x bs at ≡ good s → All (λ t. P t s) ts
+      → (x s : A) (bs : List ℕ) (at : ℕ) → walk_fields K ts x bs at ≡ Ok s → All (λ t. P t s) ts
   every P [] lo r none x s bs at e = none
   every P (t ∷ ts) lo r (m ▸ ms) x s bs at e =
       let q = walk_some K t ts x s bs at e in
@@ -47,7 +47,7 @@ module _ {A : Type 0} (K : Kind A) where
   -- ---- an accepted record is written again byte for byte
 
   pub written_again_lem : (ts : List ℕ) (lo : ℕ) → rises lo ts ≡ true → All (Kept K) ts
-      → (x s : A) (bs : List ℕ) (at : ℕ) → AllBytes bs → walk_fields K ts x bs at ≡ good s → encode_fields K ts s ≡ bs
+      → (x s : A) (bs : List ℕ) (at : ℕ) → AllBytes bs → walk_fields K ts x bs at ≡ Ok s → encode_fields K ts s ≡ bs
   unfolding encode_fields
   written_again_lem [] lo r none x s bs at b e = sym (no_length bs (walk_none K x s bs at e).1)
   written_again_lem (t ∷ ts) lo r (k ▸ ks) x s bs at b e =
@@ -66,8 +66,8 @@ module _ {A : Type 0} (K : Kind A) where
   store_all [] s x = x
   store_all (t ∷ ts) s x = store_all ts s (K.store t (K.bytes t s) x)
 
-  pub read_again : (ts : List ℕ) (s x : A) (at : ℕ) → All (λ t. (y : A) → field_rule K t (K.bytes t s) y ≡ Passed) ts
-      → walk_fields K ts x (encode_fields K ts s) at ≡ good (store_all ts s x)
+  pub read_again : (ts : List ℕ) (s x : A) (at : ℕ) → All (λ t. (y : A) → field_rule K t (K.bytes t s) y ≡ Ok tt) ts
+      → walk_fields K ts x (encode_fields K ts s) at ≡ Ok (store_all ts s x)
   unfolding walk_fields unless encode_fields store_all
   read_again [] s x at none = refl
   read_again (t ∷ ts) s x at (g ▸ gs) =

@@ -1,32 +1,31 @@
 -- Laws of the walk over the fields of a record, for every kind.
-use mathlib.Core.Path.{◌≡◌, refl, sym, ap, ◌∙◌}
+use mathlib.Core.Path.{◌≡◌, refl, sym, ◌∙◌}
 use mathlib.Core.Bool.{Bool, true, false}
 use mathlib.Core.List.{List, [], ◌∷◌, ◌++◌}
 use Prim.Native.Nat.{ℕ, ◌+◌, ◌-◌, ◌≤◌, ◌<◌}
 use native.Mathlib.Nat.{add-sub_cancel_left}
-use native.Mathlib.Numerals.{add-one}
 use native.Mathlib.Omega.{arith}
 use lib.Dec.{ltb, eqb}
-use lib.ListN.{length, get_or, take, drop, length-drop, drop_of_length-le}
-use lib.Seq.{drop-cons, take_all}
+use lib.ListN.{length, get_or, take, drop, length-drop}
+use lib.Seq.{take_all}
 use borrow.Author.Tests.{eqb-true, ltb-false, ne_eqb, le-ltb}
+use Rattle.std.specs.Prelude.{Result, Ok, Err}
 use Rattle.site.specs.declared.Site.{Site}
+use Rattle.site.specs.declared.Refusal.{Refusal}
 use Rattle.site.specs.declared.Rule.{Rule}
 use Rattle.site.specs.declared.Rule.TheVariants.{InnerCut, InnerTag}
-use Rattle.site.specs.declared.Checked.{Checked}
-use Rattle.site.specs.declared.Checked.TheVariants.{Passed, Broken}
+use Rattle.site.specs.Refusal.{Checked}
 use Rattle.site.specs.Choice.{pick}
-use Rattle.field.specs.Field.{store, taken, site_kind}
-use Rattle.field.specs.declared.Taken.{Taken}
-use Rattle.field.proofs.KindLaws.{parts_passed}
-use Rattle.field.proofs.TakenLaws.{taken_site}
+use Rattle.field.specs.Field.{taken, site_kind}
+use Rattle.field.proofs.TakenLaws.{taken_ok, taken_err}
 use Rattle.site.proofs.Passing.{pass_else, pass_then}
-use Rattle.record.specs.Result.{good, fault, unless}
+use Rattle.record.specs.Result.{unless}
 use Rattle.record.specs.FieldParts.{stated_len, value_at, rest_at, field_of}
 use Rattle.field.specs.Kind.{Kind, field_rule}
 use Rattle.record.specs.Fields.{head_rule, walk_fields}
 use Rattle.record.proofs.FieldBytes.{stated, field_length, field_tag}
-use Rattle.record.proofs.ResultLaws.{not_good, good_same, unless_good}
+use Rattle.record.proofs.ResultLaws.{unless_ok}
+use Rattle.record.proofs.Tags.{tags_from, tags_more, tags_none}
 
 -- ---- the head of a field
 
@@ -36,23 +35,23 @@ pub record HeadOk (t : ℕ) (bs : List ℕ) : Type 0 where
   pub tag : get_or bs 0 0 ≡ t
   pub inside : 3 + stated_len bs ≤ length bs
 
-pub head_passed : (t : ℕ) (bs : List ℕ) → head_rule t bs ≡ Passed → HeadOk t bs
+pub head_passed : (t : ℕ) (bs : List ℕ) → head_rule t bs ≡ Ok tt → HeadOk t bs
 unfolding head_rule
 head_passed t bs e =
     let n = stated_len bs in
-    let c4 : Checked = pick (ltb (length bs - 3) n) (Broken InnerCut) Passed in
-    let c3 : Checked = pick (eqb (get_or bs 0 0) t) c4 (Broken InnerTag) in
-    let c2 : Checked = pick (ltb (length bs) 3) (Broken InnerCut) c3 in
+    let c4 : Checked = pick (ltb (length bs - 3) n) (Err InnerCut) (Ok tt) in
+    let c3 : Checked = pick (eqb (get_or bs 0 0) t) c4 (Err InnerTag) in
+    let c2 : Checked = pick (ltb (length bs) 3) (Err InnerCut) c3 in
     let p1 = pass_else (eqb (length bs) 0) InnerTag c2 e in
     let p2 = pass_else (ltb (length bs) 3) InnerCut c3 p1.1 in
     let p3 = pass_then (eqb (get_or bs 0 0) t) InnerTag c4 p2.1 in
-    let p4 = pass_else (ltb (length bs - 3) n) InnerCut Passed p3.1 in
+    let p4 = pass_else (ltb (length bs - 3) n) InnerCut (Ok tt) p3.1 in
     let h : 3 ≤ length bs = ltb-false (length bs) 3 p2.0 in
     let g : stated_len bs ≤ length bs - 3 = ltb-false (length bs - 3) (stated_len bs) p4.0 in
     record { room = h; tag = eqb-true (get_or bs 0 0) t p3.0; inside = omega arith }
 
 -- the head of a whole field passes
-pub head_field : (t : ℕ) (v rest : List ℕ) → head_rule t (field_of t v ++ rest) ≡ Passed
+pub head_field : (t : ℕ) (v rest : List ℕ) → head_rule t (field_of t v ++ rest) ≡ Ok tt
 unfolding head_rule
 head_field t v rest =
     let bs = field_of t v ++ rest in
@@ -67,76 +66,58 @@ pub rest_all : (l : List ℕ) (e : ℕ) → take (length l - e) (drop e l) ≡ d
 rest_all l e = take_all (length l - e) (drop e l) (simp length-drop (omega arith))
 
 module _ {A : Type 0} (K : Kind A) where
-  -- ---- a step of the walk, at due tag k
-
-  module _ (ds : List ℕ) (k : ℕ) (inside : k < length ds) (x : A) (bs : List ℕ) (at : ℕ) where
-    pub walk_head : (r : Rule) → head_rule (get_or ds k 0) bs ≡ Broken r → walk_fields K (drop k ds) x bs at ≡ fault r at
-    unfolding walk_fields unless
-    walk_head r e = rw (drop-cons ds k 0, e)
-
-    module _ (ok : head_rule (get_or ds k 0) bs ≡ Passed) where
-      pub walk_value : (r : Rule) → field_rule K (get_or ds k 0) (value_at bs) x ≡ Broken r → walk_fields K (drop k ds) x bs at ≡ fault r at
-      unfolding walk_fields unless
-      walk_value r e = rw (drop-cons ds k 0, ok, e)
-
-      pub walk_next : field_rule K (get_or ds k 0) (value_at bs) x ≡ Passed → (y : A) → y ≡ K.store (get_or ds k 0) (value_at bs) x
-          → (end : ℕ) → end ≡ 3 + stated_len bs
-          → walk_fields K (drop k ds) x bs at ≡ walk_fields K (drop (k + 1) ds) y (take (length bs - end) (drop end bs)) (at + end)
-      unfolding walk_fields unless
-      walk_next e y is end is_end = rw (drop-cons ds k 0, ok, e, is, rest_all, is_end, add-one k)
-
-  -- ---- the end of the walk: no tag is due
-
-  module _ (ds : List ℕ) (k : ℕ) (x : A) (bs : List ℕ) (at : ℕ) (past : length ds ≤ k) where
-    pub walk_done : length bs ≡ 0 → walk_fields K (drop k ds) x bs at ≡ good x
-    unfolding walk_fields
-    walk_done e = let q : drop k ds ≡ [] = drop_of_length-le ds {i = k} past in rw (q, e)
-
-    pub walk_more : (length bs ≡ 0 → ⊥) → walk_fields K (drop k ds) x bs at ≡ fault InnerTag at
-    unfolding walk_fields
-    walk_more e = let q : drop k ds ≡ [] = drop_of_length-le ds {i = k} past in rw (q, ne_eqb _ _ e)
-
   -- ---- what an accepted walk was
 
-  end_good : (b : Bool) (x s : A) (at : ℕ) → pick b (good x) (fault InnerTag at) ≡ good s → (b ≡ true) × (x ≡ s)
-  end_good true x s at e = (refl, good_same e)
-  end_good false x s at e = not_good e
+  end_ok : (b : Bool) (x s : A) (r : Refusal) → pick b (Ok x) (Err r) ≡ Ok s → (b ≡ true) × (x ≡ s)
+  end_ok true x s r e = (refl, cc)
+  end_ok false x s r e = cc
 
-  pub walk_none : (x s : A) (bs : List ℕ) (at : ℕ) → walk_fields K [] x bs at ≡ good s → (x ≡ s) × (length bs ≡ 0)
+  pub walk_none : (x s : A) (bs : List ℕ) (at : ℕ) → walk_fields K [] x bs at ≡ Ok s → (x ≡ s) × (length bs ≡ 0)
   unfolding walk_fields
   walk_none x s bs at e =
-      let p = end_good (eqb (length bs) 0) x s at e in
+      let p = end_ok (eqb (length bs) 0) x s _ e in
       (p.1, eqb-true (length bs) 0 p.0)
 
   pub record FieldStep (t : ℕ) (ts : List ℕ) (x s : A) (bs : List ℕ) (at : ℕ) : Type 0 where
     pub head : HeadOk t bs
-    pub passed : field_rule K t (value_at bs) x ≡ Passed
-    pub more : walk_fields K ts (K.store t (value_at bs) x) (rest_at bs) (at + (3 + stated_len bs)) ≡ good s
+    pub passed : field_rule K t (value_at bs) x ≡ Ok tt
+    pub more : walk_fields K ts (K.store t (value_at bs) x) (rest_at bs) (at + (3 + stated_len bs)) ≡ Ok s
 
-  pub walk_some : (t : ℕ) (ts : List ℕ) (x s : A) (bs : List ℕ) (at : ℕ) → walk_fields K (t ∷ ts) x bs at ≡ good s → FieldStep t ts x s bs at
+  pub walk_some : (t : ℕ) (ts : List ℕ) (x s : A) (bs : List ℕ) (at : ℕ) → walk_fields K (t ∷ ts) x bs at ≡ Ok s → FieldStep t ts x s bs at
   unfolding walk_fields
   walk_some t ts x s bs at e =
-      let p = unless_good (head_rule t bs) at _ e in
-      let q = unless_good (field_rule K t (value_at bs) x) at _ p.1 in
+      let p = unless_ok (head_rule t bs) at _ e in
+      let q = unless_ok (field_rule K t (value_at bs) x) at _ p.1 in
       record { head = head_passed t bs p.0; passed = q.0; more = q.1 }
 
--- ---- a step of the site's walk, as the code makes it
+-- ---- the site's walk, as the code makes it
 
-module _ (ds : List ℕ) (k : ℕ) (inside : k < length ds) (s : Site) (bs : List ℕ) (at : ℕ) (ok : head_rule (get_or ds k 0) bs ≡ Passed)
-    (x : Taken) (end : ℕ) (is_end : end ≡ 3 + stated_len bs) (took : x ≡ taken (get_or ds k 0) (take (end - 3) (drop 3 bs)) s) where
-  took_value : x ≡ taken (get_or ds k 0) (value_at bs) s
-  took_value = rw (is_end, add-sub_cancel_left) at took
+module _ (s : Site) (bs : List ℕ) (at : ℕ) where
+  -- a step, at tag t
+  module _ (t : ℕ) (inside : t ≤ 15) where
+    pub walk_head : (r : Rule) → head_rule t bs ≡ Err r → walk_fields site_kind (tags_from t) s bs at ≡ Err (record { rule = r; at = at })
+    unfolding walk_fields unless
+    walk_head r e = rw (tags_more t inside, e)
 
-  said : x.checked ≡ field_rule site_kind (get_or ds k 0) (value_at bs) s
-  unfolding taken
-  said = ap (λ (y : Taken). y.checked) took_value
+    module _ (ok : head_rule t bs ≡ Ok tt) (end : ℕ) (is_end : end ≡ 3 + stated_len bs) where
+      abbrev took : Result Site Rule
+      took = taken t (take (end - 3) (drop 3 bs)) s
 
-  pub site_value : (r : Rule) → x.checked ≡ Broken r → walk_fields site_kind (drop k ds) s bs at ≡ fault r at
-  site_value r e = walk_value site_kind ds k inside s bs at ok r (sym said ∙ e)
+      took_value : took ≡ taken t (value_at bs) s
+      took_value = rw (is_end, add-sub_cancel_left)
 
-  pub site_next : x.checked ≡ Passed
-      → walk_fields site_kind (drop k ds) s bs at ≡ walk_fields site_kind (drop (k + 1) ds) x.site (take (length bs - end) (drop end bs)) (at + end)
-  site_next e =
-      let p = parts_passed site_kind (get_or ds k 0) (value_at bs) s (sym said ∙ e) in
-      let site : x.site ≡ store (get_or ds k 0) (value_at bs) s = ap (λ (y : Taken). y.site) took_value ∙ taken_site (get_or ds k 0) (value_at bs) s p.0 in
-      walk_next site_kind ds k inside s bs at ok (sym said ∙ e) x.site site end is_end
+      pub walk_value : (r : Rule) → took ≡ Err r → walk_fields site_kind (tags_from t) s bs at ≡ Err (record { rule = r; at = at })
+      unfolding walk_fields unless
+      walk_value r e = rw (tags_more t inside, ok, taken_err t (value_at bs) s r (sym took_value ∙ e))
+
+      pub walk_next : (x : Site) → took ≡ Ok x
+          → walk_fields site_kind (tags_from t) s bs at ≡ walk_fields site_kind (tags_from (t + 1)) x (take (length bs - end) (drop end bs)) (at + end)
+      unfolding walk_fields unless
+      walk_next x e =
+          let p = taken_ok t (value_at bs) s x (sym took_value ∙ e) in
+          rw (tags_more t inside, ok, p.0, p.1, rest_all, is_end)
+
+  -- the end: no tag is due
+  pub walk_end : (t : ℕ) → 15 < t → walk_fields site_kind (tags_from t) s bs at ≡ pick (eqb (length bs) 0) (Ok s) (Err (record { rule = InnerTag; at = at }))
+  unfolding walk_fields
+  walk_end t past = rw (tags_none t past)

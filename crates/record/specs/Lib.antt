@@ -1,9 +1,7 @@
 pub mod Result
 pub mod FieldParts
-pub mod ValueBytes
 pub mod Fields
 pub mod Records
-pub mod ReadAnswers
 pub mod Outer
 pub mod File
 pub mod FirstFault

@@ -1,21 +1,11 @@
 -- A site record of a file, and a file of at most one record.
-use Rattle.std.specs.Prelude.{ℕ, Bool, List, eqb, drop, length}
+use Rattle.std.specs.Prelude.{ℕ, Bool, List, eqb, drop, length, Result, Ok, Err}
 use Rattle.site.specs.declared.Site.{Site}
-use Rattle.site.specs.Refusal.{rule_number}
-use Rattle.record.specs.declared.Read.{Read}
+use Rattle.site.specs.declared.Refusal.{Refusal}
 use Rattle.record.specs.declared.Found.{Found}
-use Rattle.record.specs.declared.Outcome.{Outcome}
-use Rattle.record.specs.declared.Outcome.TheVariants.{Accepted, Refused}
-use Rattle.record.specs.Result.{Result, good, fault}
 use Rattle.field.specs.Kind.{Kind}
-use Rattle.field.specs.Field.{site_kind, blank_site}
-use Rattle.record.specs.ReadAnswers.{read_of}
+use Rattle.field.specs.Field.{site_kind}
 use Rattle.record.specs.Records.{record_in, single}
-
--- what an outcome says in 01's numbers: rule and offset; 0 and 0 where the record is accepted
-unfoldable pub outcome_numbers : Outcome → ℕ × ℕ
-outcome_numbers Accepted = (0, 0)
-outcome_numbers (Refused r at) = (rule_number r, at)
 
 -- the outer tag 52
 abbrev pub site_tag : ℕ → Bool
@@ -25,20 +15,17 @@ abbrev pub site_kinds : ℕ → Kind Site
 site_kinds t = site_kind
 
 -- the record of the file f that starts at offset `at`, and where the next one starts
-unfoldable pub site_at : List ℕ → ℕ → Result (Site × ℕ)
+unfoldable pub site_at : List ℕ → ℕ → Result (Site × ℕ) Refusal
 site_at f at = record_in site_tag site_kinds (drop at f) at
 
--- the same as the call gives it: a refused record carries the blank site and its own offset
-unfoldable pub found_of : ℕ → Result (Site × ℕ) → Found
-found_of at (good x) = record { outcome = Accepted; site = x.0; next = x.1 }
-found_of at (fault r i) = record { outcome = Refused r i; site = blank_site; next = at }
+-- the same as the call gives it
+unfoldable pub found_of : Result (Site × ℕ) Refusal → Result Found Refusal
+found_of (Ok x) = Ok (record { site = x.0; next = x.1 })
+found_of (Err r) = Err r
 
-unfoldable pub record_at : List ℕ → ℕ → Found
-record_at f at = found_of at (site_at f at)
+abbrev pub record_at : List ℕ → ℕ → Result Found Refusal
+record_at f at = found_of (site_at f at)
 
--- a file of at most one record, and the same as the call gives it
-abbrev pub only_site : List ℕ → Result Site
-only_site f = single (site_at f) (length f)
-
-unfoldable pub read_record : List ℕ → Read
-read_record f = read_of (only_site f)
+-- a file of at most one record
+unfoldable pub read_record : List ℕ → Result Site Refusal
+read_record f = single (site_at f) (length f)

@@ -1,8 +1,7 @@
 -- The bytes of a site's record, and what a write of them can break.
-use Rattle.std.specs.Prelude.{ℕ, ◌≡◌, List, length}
+use Rattle.std.specs.Prelude.{ℕ, ◌≡◌, List, length, Ok}
 use Rattle.site.specs.declared.Site.{Site}
-use Rattle.site.specs.declared.Checked.{Checked}
-use Rattle.site.specs.declared.Checked.TheVariants.{Passed}
+use Rattle.site.specs.Refusal.{Checked}
 use Rattle.site.specs.Check.{site_rule}
 use Rattle.output.specs.Output.{output_rule}
 use Rattle.record.specs.Fields.{encode_as}
@@ -18,5 +17,5 @@ write_rule s room = output_rule (site_rule s) (length (encode s)) room
 
 -- s passes the check, so that the writer takes it, and its record is the bytes bs
 pub record WritesAgain (s : Site) (bs : List ℕ) : Type 0 where
-  pub passes : site_rule s ≡ Passed
+  pub passes : site_rule s ≡ Ok tt
   pub bytes : encode s ≡ bs

@@ -1,146 +1,59 @@
 // The bytes of a site's value with a given tag.
-ghost use Rattle.std.specs.Prelude.{[], ◌∷◌, ◌++◌, ◌≡◌, ◌≤◌, min, take};
-ghost use Rattle.numbers.specs.TwoBytes.{word_bytes};
+ghost use Rattle.std.specs.Prelude.{◌≡◌, ◌≤◌, length};
 ghost use Rattle.field.specs.Field.{value, entries_bytes};
-ghost use Rattle.record.specs.ValueBytes.{Holds};
 
-use crate::halves::{hi, lo};
-use numbers::wide;
+use arrayvec::ArrayVec;
 use site::{Entry, Site};
 
-// The first `len` of `bytes`; what stands behind them has no meaning.
-#[derive(Clone, Copy)]
-pub struct ValueBytes {
-    pub bytes: [u8; 16],
-    pub len: usize,
+// Bytes of a value. There are at most 16, those of four entries.
+fn of(bytes: &[u8]) -> ArrayVec<u8, 16>
+    requires { length bytes.now ≤ 16 }
+    ensures { result.items ≡ bytes.now }
+{
+    let mut held = ArrayVec::new();
+    held.try_extend_from_slice(bytes).unwrap();
+    held
 }
 
-// n, but no more than there are.
-fn at_most(n: u8, most: usize) -> usize
-    ensures { (result ≡ min n most) × (result ≤ most) }
+#[tactic(auto, using(crate::proofs::ValueBytesLaws::entries_more, crate::proofs::ValueBytesLaws::entries_long), unfolding(field::specs::Field::entries_bytes))]
+fn of_entries(entries: &[Entry]) -> ArrayVec<u8, 16>
+    requires { length entries.now ≤ 4 }
+    ensures { result.items ≡ entries_bytes entries.now }
 {
-    let k = wide(n);
-    if k <= most {
-        return k;
+    let mut held = ArrayVec::new();
+    for e in entries {
+        let [hi, lo] = e.yield_kg.to_be_bytes();
+        held.try_extend_from_slice(&[e.species, e.share, hi, lo])
+            .unwrap();
     }
-    most
+    held
 }
 
-#[tactic(auto, using(crate::proofs::ValueBytesLaws::name_bytes, crate::proofs::ValueBytesLaws::name_value_lem, site::proofs::PartLaws::take_min), unfolding(crate::proofs::ValueBytesLaws::name_bytes, site::specs::Bytes::tabulate))]
-fn name_value(name: [u8; 8], n: u8) -> ValueBytes
-    ensures { Holds result.bytes result.len (take n name) }
-{
-    let b = name;
-    let len = at_most(n, 8);
-    ValueBytes {
-        bytes: [
-            b[0], b[1], b[2], b[3], b[4], b[5], b[6], b[7], 0, 0, 0, 0, 0, 0, 0, 0,
-        ],
-        len,
-    }
-}
-
-fn stand_value(stand: [Entry; 4], n: u8) -> ValueBytes
-    ensures { Holds result.bytes result.len (entries_bytes (take n stand)) }
-{
-    let a = stand[0];
-    let b = stand[1];
-    let c = stand[2];
-    let d = stand[3];
-    let len = 4 * at_most(n, 4);
-    ValueBytes {
-        bytes: [
-            a.species,
-            a.share,
-            hi(a.yield_kg),
-            lo(a.yield_kg),
-            b.species,
-            b.share,
-            hi(b.yield_kg),
-            lo(b.yield_kg),
-            c.species,
-            c.share,
-            hi(c.yield_kg),
-            lo(c.yield_kg),
-            d.species,
-            d.share,
-            hi(d.yield_kg),
-            lo(d.yield_kg),
-        ],
-        len,
-    }
-}
-
-fn no_bytes() -> ValueBytes
-    ensures { Holds result.bytes result.len [] }
-{
-    ValueBytes {
-        bytes: [0u8; 16],
-        len: 0,
-    }
-}
-
-fn one_byte(x: u8) -> ValueBytes
-    ensures { Holds result.bytes result.len (x ∷ []) }
-{
-    let mut bytes = [0u8; 16];
-    bytes[0] = x;
-    ValueBytes { bytes, len: 1 }
-}
-
-fn two_bytes(x: u8, y: u8) -> ValueBytes
-    ensures { Holds result.bytes result.len (x ∷ y ∷ []) }
-{
-    let mut bytes = [0u8; 16];
-    bytes[0] = x;
-    bytes[1] = y;
-    ValueBytes { bytes, len: 2 }
-}
-
-fn one_word(x: u16) -> ValueBytes
-    ensures { Holds result.bytes result.len (word_bytes x) }
-{
-    two_bytes(hi(x), lo(x))
-}
-
-fn two_words(x: u16, y: u16) -> ValueBytes
-    ensures { Holds result.bytes result.len (word_bytes x ++ word_bytes y) }
-{
-    let mut bytes = [0u8; 16];
-    bytes[0] = hi(x);
-    bytes[1] = lo(x);
-    bytes[2] = hi(y);
-    bytes[3] = lo(y);
-    ValueBytes { bytes, len: 4 }
-}
-
-#[tactic(auto, using(site::proofs::MatchLaws::none_below, crate::proofs::ValueBytesLaws::no_value), unfolding(field::specs::Field::value))]
-pub fn value_of(site: Site, tag: u8) -> ValueBytes
-    ensures { Holds result.bytes result.len (value tag site) }
+#[tactic(auto, using(site::proofs::MatchLaws::none_below, crate::proofs::ValueBytesLaws::no_value, site::proofs::PartLaws::take_min), unfolding(field::specs::Field::value))]
+pub fn value_of(site: Site, tag: u8) -> ArrayVec<u8, 16>
+    ensures { result.items ≡ value tag site }
 {
     match tag {
-        1 => {
-            let name = site.name;
-            name_value(name, site.name_len)
+        1 => of(site.name.as_slice()),
+        2 => of(&[site.parent]),
+        3 => of(&[site.clay, site.sand]),
+        4 => of(&[site.depth]),
+        5 => of(&[site.drainage]),
+        6 => of(&site.percolation.to_be_bytes()),
+        7 => of_entries(site.stand.as_slice()),
+        8 => of(&site.immobilisation.to_be_bytes()),
+        9 => of(&[site.available]),
+        10 => of(&site.base_deposition.to_be_bytes()),
+        11 => of(&site.ratio.to_be_bytes()),
+        12 => of(&site.gibbsite.to_be_bytes()),
+        13 => of(&site.ceiling.to_be_bytes()),
+        14 => of(&site.leachate.to_be_bytes()),
+        15 => {
+            let [a, b] = site.sulphur.to_be_bytes();
+            let [c, d] = site.nitrogen.to_be_bytes();
+            of(&[a, b, c, d])
         }
-        2 => one_byte(site.parent),
-        3 => two_bytes(site.clay, site.sand),
-        4 => one_byte(site.depth),
-        5 => one_byte(site.drainage),
-        6 => one_word(site.percolation),
-        7 => {
-            let stand = site.stand;
-            stand_value(stand, site.entries)
-        }
-        8 => one_word(site.immobilisation),
-        9 => one_byte(site.available),
-        10 => one_word(site.base_deposition),
-        11 => one_word(site.ratio),
-        12 => one_word(site.gibbsite),
-        13 => one_word(site.ceiling),
-        14 => one_word(site.leachate),
-        15 => two_words(site.sulphur, site.nitrogen),
         // another tag has no bytes
-        _ => no_bytes(),
+        _ => of(&[]),
     }
 }

@@ -9,8 +9,7 @@ use Rattle.std.proofs.lemmas.Bool.Decides.{nat_tests}
 use Rattle.std.specs.Prelude.{sum_by, Result, Ok, Err}
 use Rattle.site.specs.Ranges.{deposition_range}
 use Rattle.site.specs.declared.Refusal.{Refusal}
-use Rattle.site.specs.declared.Checked.{Checked}
-use Rattle.site.specs.declared.Checked.TheVariants.{Passed, Broken}
+use Rattle.site.specs.Refusal.{Checked}
 use Rattle.loads.specs.Rounding.{up}
 use Rattle.sampler.specs.MonthRules.{month_rule, sulphur_of, nitrogen_of}
 use Rattle.sampler.specs.YearPair.{too_large, pair_of, unless_at, months_checked, year_of}
@@ -26,11 +25,11 @@ data Ends (i : ℕ) (ms : List Month) (y z : Result Pair Refusal) : Type 0 where
 none_before : (ms : List Month) → Pass ms 0
 none_before ms k h d = absurd (omega arith)
 
-one_more : (m : Month) (ms : List Month) (n : ℕ) → month_rule m ≡ Passed → Pass ms n → Pass (m ∷ ms) (suc n)
+one_more : (m : Month) (ms : List Month) (n : ℕ) → month_rule m ≡ Ok tt → Pass ms n → Pass (m ∷ ms) (suc n)
 one_more m ms n p q zero h d = p
 one_more m ms n p q (suc k) h d = q k (omega arith) d
 
-later : (i : ℕ) (m : Month) (ms : List Month) (y z : Result Pair Refusal) → month_rule m ≡ Passed → Ends (suc i) ms y z → Ends i (m ∷ ms) y z
+later : (i : ℕ) (m : Month) (ms : List Month) (y z : Result Pair Refusal) → month_rule m ≡ Ok tt → Ends (suc i) ms y z → Ends i (m ∷ ms) y z
 later i m ms y z p (at_month r f e) =
     let same : suc i + r.at ≡ i + suc r.at = omega arith in
     at_month (record { rule = r.rule; at = suc r.at }) (record { inside = let h = f.inside in omega arith; before = one_more m ms r.at p f.before; broken = f.broken }) (rw same at e)
@@ -41,8 +40,8 @@ ends i [] y = behind (none_before []) refl
 ends i (m ∷ ms) y = go (month_rule m) refl (ends (suc i) ms y)
   where
     go : (c : Checked) → month_rule m ≡ c → Ends (suc i) ms y (months_checked (suc i) ms y) → Ends i (m ∷ ms) y (unless_at c i (months_checked (suc i) ms y))
-    go Passed e rest = later i m ms y (months_checked (suc i) ms y) e rest
-    go (Broken rule) e rest =
+    go (Ok tt) e rest = later i m ms y (months_checked (suc i) ms y) e rest
+    go (Err rule) e rest =
         let same : i + 0 ≡ i = omega arith in
         at_month (record { rule = rule; at = 0 }) (record { inside = omega arith; before = none_before (m ∷ ms); broken = λ d. e }) (rw same)
 

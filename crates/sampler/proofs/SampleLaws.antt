@@ -8,19 +8,17 @@ use native.Mathlib.Omega.{arith}
 use Rattle.std.specs.Prelude.{Result, Ok, Err}
 use Rattle.site.specs.Check.{fields_rule, site_rule}
 use Rattle.site.specs.ByCheck.{answer_if}
-use Rattle.site.specs.Refusal.{values_if}
+use Rattle.site.specs.Refusal.{values_if, Checked}
 use Rattle.site.specs.Values.{item_count, count_rule, value_rule}
 use Rattle.site.specs.declared.Site.{Site}
 use Rattle.site.specs.declared.Refusal.{Refusal}
-use Rattle.site.specs.declared.Checked.{Checked}
-use Rattle.site.specs.declared.Checked.TheVariants.{Passed, Broken}
 use Rattle.loads.specs.SiteTerms.{terms_of}
 use Rattle.loads.proofs.OneSiteLaws.{terms_same}
 use Rattle.judgement.specs.Answers.{judged_of, judgement_answer, pair_values}
 use Rattle.judgement.specs.Balance.{Tells}
 use Rattle.judgement.specs.Verdicts.{verdict_word, within, over}
-use Rattle.judgement.specs.declared.JudgementAnswer.{JudgementAnswer}
-use Rattle.judgement.specs.declared.JudgementAnswer.TheVariants.{Given as Judgement, Refused as NotJudged}
+use Rattle.judgement.specs.declared.Judged.{Judged}
+use Rattle.site.specs.declared.Rule.{Rule}
 use Rattle.judgement.proofs.JudgementAnswers.{judged_passing, judged_says, judged_values_lem, judgement_given}
 use Rattle.sampler.specs.YearPair.{year_of}
 use Rattle.sampler.specs.FirstMonth.{ByMonth, ByYear}
@@ -63,14 +61,14 @@ module _ (s : Site) (p : Pair) where
   keyed_checked = go (site_rule s) pair_rule
     where
       go : (c : Checked) → site_rule (with_pair s p) ≡ c → checked_first c keyed_answer ≡ keyed_answer
-      go Passed e = refl
-      go (Broken r) e = rw e
+      go (Ok tt) e = refl
+      go (Err r) e = rw e
 
   abbrev judged_pair : Sampled
   judged_pair = record { pair = p; judged = judged_of (with_pair s p) }
 
-  module _ (passed : site_rule s ≡ Passed) where
-    judged_pair_lem : judgement_answer (with_pair s p) ≡ Judgement (judged_of (with_pair s p))
+  module _ (passed : site_rule s ≡ Ok tt) where
+    judged_pair_lem : judgement_answer (with_pair s p) ≡ Ok (judged_of (with_pair s p))
     judged_pair_lem = judged_passing (with_pair s p) (pair_rule ∙ passed)
 
     keyed_given : keyed_answer ≡ Ok judged_pair
@@ -85,20 +83,17 @@ module _ (s : Site) (p : Pair) where
     unfolding with_pair
     pair_tells = rw pair_terms at (judged_says (with_pair s p) (pair_rule ∙ passed))
 
-not_given : (r : Refusal) (p : Sampled) → Err r ≡ Ok p → ⊥
-not_given r p e = cc
-
 module _ (s : Site) (ms : List Month) where
   -- what an answer that is given says
-  pub sample_given : (p : Sampled) → sample_answer s ms ≡ Ok p → (site_rule s ≡ Passed) × ByKey s ms p
+  pub sample_given : (p : Sampled) → sample_answer s ms ≡ Ok p → (site_rule s ≡ Ok tt) × ByKey s ms p
   unfolding sample_answer answer_if year_answer
   sample_given p = go (site_rule s) refl (year_of ms) refl
     where
-      go : (c : Checked) → site_rule s ≡ c → (y : Result Pair Refusal) → year_of ms ≡ y → checked_first c (year_answer s y) ≡ Ok p → (site_rule s ≡ Passed) × ByKey s ms p
-      go (Broken r) e y f q = absurd (not_given _ p q)
-      go Passed e (Err r) f q = absurd (not_given r p q)
-      go Passed e (Ok y) f q =
-          let g : Ok (judged_pair s y) ≡ Ok p = sym (keyed_given s y e) ∙ q in
+      go : (c : Checked) → site_rule s ≡ c → (y : Result Pair Refusal) → year_of ms ≡ y → checked_first c (year_answer s y) ≡ Ok p → (site_rule s ≡ Ok tt) × ByKey s ms p
+      go (Err r) e y f q = absurd (cc)
+      go (Ok tt) e (Err r) f q = absurd (cc)
+      go (Ok tt) e (Ok y) f q =
+          let g = keyed_given s y e in
           let w : judged_pair s y ≡ p = cc in
           (e, subst (λ (x : Sampled). ByKey s ms x) w (record { pair = f; judgement = judged_pair_lem s y e }))
 
@@ -113,34 +108,34 @@ module _ (s : Site) (ms : List Month) where
   answer_values = go (site_rule s) refl (year_of ms)
     where
       go : (c : Checked) → site_rule s ≡ c → (y : Result Pair Refusal) → sample_values (checked_first c (year_answer s y)) ≡ values_if c (year_values (terms_of s) y)
-      go (Broken r) e y = refl
-      go Passed e (Err r) = refl
-      go Passed e (Ok y) = keyed-values s y e
+      go (Err r) e y = refl
+      go (Ok tt) e (Err r) = refl
+      go (Ok tt) e (Ok y) = keyed-values s y e
 
   -- all that the call promises, from the equation of its answer
   pub sample_promise : (r : Result Sampled Refusal) → r ≡ sample_answer s ms
       → (r ≡ sample_answer s ms)
-      × ((sample_values r ≡ values_if (site_rule s) (year_values (terms_of s) (year_of ms)))
-      × (((p : Sampled) → r ≡ Ok p → ByKey s ms p)
-      × ((p : Sampled) → r ≡ Ok p → Tells within over (verdict_word p.judged.verdict) (terms_of s) p.pair.sulphur p.pair.nitrogen)))
-  sample_promise r is = (is, (ap sample_values is ∙ answer_values, (λ p q. (sample_given p (sym is ∙ q)).1, λ p q. says p (sym is ∙ q))))
+      × (sample_values r ≡ values_if (site_rule s) (year_values (terms_of s) (year_of ms)))
+      × ((p : Sampled) → r ≡ Ok p → ByKey s ms p)
+      × ((p : Sampled) → r ≡ Ok p → Tells within over (verdict_word p.judged.verdict) (terms_of s) p.pair.sulphur p.pair.nitrogen)
+  sample_promise r is = (is, ap sample_values is ∙ answer_values, λ p q. (sample_given p (sym is ∙ q)).1, λ p q. says p (sym is ∙ q))
 
 -- ---- what an answer says of the check before it, and where it is refused
 
-pub checked_given : (c : Checked) (a : Result Sampled Refusal) (p : Sampled) → checked_first c a ≡ Ok p → (c ≡ Passed) × (a ≡ Ok p)
+pub checked_given : (c : Checked) (a : Result Sampled Refusal) (p : Sampled) → checked_first c a ≡ Ok p → (c ≡ Ok tt) × (a ≡ Ok p)
 unfolding answer_if
-checked_given Passed a p e = (refl, e)
-checked_given (Broken r) a p e = absurd (not_given _ p e)
+checked_given (Ok tt) a p e = (refl, e)
+checked_given (Err r) a p e = absurd (cc)
 
 pub checked_at : (c : Checked) (a : Result Sampled Refusal) {most : ℕ} → ((r : Refusal) → a ≡ Err r → r.at ≤ most) → (r : Refusal) → checked_first c a ≡ Err r → r.at ≤ most
 unfolding answer_if
-checked_at Passed a h r e = h r e
-checked_at (Broken rule) a h r e = let z : r.at ≡ 0 = cc in omega arith
+checked_at (Ok tt) a h r e = h r e
+checked_at (Err rule) a h r e = let z : r.at ≡ 0 = cc in omega arith
 
-keyed_at : (p : Pair) (a : JudgementAnswer) (r : Refusal) → keyed p a ≡ Err r → r.at ≡ 0
+keyed_at : (p : Pair) (a : Result Judged Rule) (r : Refusal) → keyed p a ≡ Err r → r.at ≡ 0
 unfolding keyed
-keyed_at p (Judgement j) r e = absurd (cc)
-keyed_at p (NotJudged rule) r e = cc
+keyed_at p (Ok j) r e = absurd (cc)
+keyed_at p (Err rule) r e = cc
 
 pub year_at : (s : Site) (ms : List Month) → length ms ≡ 12 → (r : Refusal) → year_answer s (year_of ms) ≡ Err r → r.at ≤ 12
 unfolding year_answer

@@ -1,11 +1,9 @@
 -- A month: its rules, in order the rain, sulphate, nitrate and ammonium, and what it brings.
 use Rattle.std.specs.Prelude.{ℕ, ◌+◌, ◌*◌, leb, Result, Ok, Err}
-use Rattle.site.specs.Refusal.{and_then}
+use Rattle.site.specs.Refusal.{and_then, Checked}
 use Rattle.site.specs.Choice.{pick}
 use Rattle.site.specs.declared.Rule.{Rule}
 use Rattle.site.specs.declared.Rule.TheVariants.{OutOfRange, NoReading}
-use Rattle.site.specs.declared.Checked.{Checked}
-use Rattle.site.specs.declared.Checked.TheVariants.{Passed, Broken}
 use Rattle.sampler.specs.Micrograms.{concentration_of}
 use Rattle.sampler.specs.declared.Reading.{Reading}
 use Rattle.sampler.specs.declared.Reading.TheVariants.{Measured, Below, Missing}
@@ -24,8 +22,8 @@ reading_of Missing = Err NoReading
 
 -- rules 12 and 13
 abbrev pub concentration_rule : Result ℕ Rule → Checked
-concentration_rule (Ok n) = Passed
-concentration_rule (Err rule) = Broken rule
+concentration_rule (Ok n) = Ok tt
+concentration_rule (Err rule) = Err rule
 
 -- µg per litre; 0 where the reading is refused
 abbrev pub micrograms : Result ℕ Rule → ℕ
@@ -37,7 +35,7 @@ readings_rule s n a = and_then (concentration_rule s) (and_then (concentration_r
 
 -- rule 8 for the rain, then the readings
 unfoldable pub month_rule : Month → Checked
-month_rule m = and_then (pick (leb m.rain most_rain) Passed (Broken OutOfRange)) (readings_rule (reading_of m.sulphate) (reading_of m.nitrate) (reading_of m.ammonium))
+month_rule m = and_then (pick (leb m.rain most_rain) (Ok tt) (Err OutOfRange)) (readings_rule (reading_of m.sulphate) (reading_of m.nitrate) (reading_of m.ammonium))
 
 -- mm times µg per litre
 unfoldable pub sulphur_of : Month → ℕ
@@ -49,8 +47,8 @@ nitrogen_of m = m.rain * (micrograms (reading_of m.nitrate) + micrograms (readin
 
 -- what the code gives for a month
 abbrev pub deposition_by : Checked → (sulphur nitrogen : ℕ) → Result Deposition Rule
-deposition_by Passed s n = Ok (record { sulphur = s; nitrogen = n })
-deposition_by (Broken rule) s n = Err rule
+deposition_by (Ok tt) s n = Ok (record { sulphur = s; nitrogen = n })
+deposition_by (Err rule) s n = Err rule
 
 abbrev pub deposition_of : Month → Result Deposition Rule
 deposition_of m = deposition_by (month_rule m) (sulphur_of m) (nitrogen_of m)

@@ -2,14 +2,13 @@
 use Rattle.std.specs.Prelude.{ℕ, ◌≡◌, List, [], ◌∷◌, Result, Ok, Err}
 use Rattle.site.specs.Check.{site_rule}
 use Rattle.site.specs.ByCheck.{answer_if}
-use Rattle.site.specs.Refusal.{rule_number}
+use Rattle.site.specs.Refusal.{rule_number, Checked}
 use Rattle.site.specs.declared.Site.{Site}
 use Rattle.site.specs.declared.Refusal.{Refusal}
-use Rattle.site.specs.declared.Checked.{Checked}
 use Rattle.loads.specs.Terms.{Terms}
 use Rattle.judgement.specs.Answers.{judgement_answer, judged_values, pair_values}
-use Rattle.judgement.specs.declared.JudgementAnswer.{JudgementAnswer}
-use Rattle.judgement.specs.declared.JudgementAnswer.TheVariants.{Given as Judgement, Refused as NotJudged}
+use Rattle.judgement.specs.declared.Judged.{Judged}
+use Rattle.site.specs.declared.Rule.{Rule}
 use Rattle.sampler.specs.YearPair.{year_of}
 use Rattle.sampler.specs.declared.Month.{Month}
 use Rattle.sampler.specs.declared.Pair.{Pair}
@@ -17,32 +16,12 @@ use Rattle.sampler.specs.declared.Sampled.{Sampled}
 
 -- the site with the pair put into its field 0F
 unfoldable pub with_pair : Site → Pair → Site
-with_pair s p = record {
-  name = s.name;
-  name_len = s.name_len;
-  parent = s.parent;
-  clay = s.clay;
-  sand = s.sand;
-  depth = s.depth;
-  drainage = s.drainage;
-  percolation = s.percolation;
-  stand = s.stand;
-  entries = s.entries;
-  immobilisation = s.immobilisation;
-  available = s.available;
-  base_deposition = s.base_deposition;
-  ratio = s.ratio;
-  gibbsite = s.gibbsite;
-  ceiling = s.ceiling;
-  leachate = s.leachate;
-  sulphur = p.sulphur;
-  nitrogen = p.nitrogen;
-}
+with_pair s p = record s { sulphur = p.sulphur; nitrogen = p.nitrogen }
 
 -- what the judgement answers, with the pair that was judged
-unfoldable pub keyed : Pair → JudgementAnswer → Result Sampled Refusal
-keyed p (Judgement j) = Ok (record { pair = p; judged = j })
-keyed p (NotJudged rule) = Err (record { rule = rule; at = 0 })
+unfoldable pub keyed : Pair → Result Judged Rule → Result Sampled Refusal
+keyed p (Ok j) = Ok (record { pair = p; judged = j })
+keyed p (Err rule) = Err (record { rule = rule; at = 0 })
 
 -- the year's pair as when entered by key, or the year's refusal
 unfoldable pub year_answer : Site → Result Pair Refusal → Result Sampled Refusal
@@ -59,7 +38,7 @@ sample_answer s ms = checked_first (site_rule s) (year_answer s (year_of ms))
 -- what is given: the pair of the months, and the judgement of the same site with this pair put into its field 0F
 pub record ByKey (s : Site) (ms : List Month) (p : Sampled) : Type 0 where
   pub pair : year_of ms ≡ Ok p.pair
-  pub judgement : judgement_answer (with_pair s p.pair) ≡ Judgement p.judged
+  pub judgement : judgement_answer (with_pair s p.pair) ≡ Ok p.judged
 
 -- the values of each case: the pair, and the judgement's values; or the refusal's number and offset
 unfoldable pub sample_values : Result Sampled Refusal → List ℕ

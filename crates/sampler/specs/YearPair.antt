@@ -4,8 +4,7 @@ use Rattle.site.specs.Choice.{pick}
 use Rattle.site.specs.Ranges.{deposition_range}
 use Rattle.site.specs.declared.Rule.TheVariants.{PairTooLarge}
 use Rattle.site.specs.declared.Refusal.{Refusal}
-use Rattle.site.specs.declared.Checked.{Checked}
-use Rattle.site.specs.declared.Checked.TheVariants.{Passed, Broken}
+use Rattle.site.specs.Refusal.{Checked}
 use Rattle.loads.specs.Rounding.{up}
 use Rattle.sampler.specs.MonthRules.{month_rule, sulphur_of, nitrogen_of}
 use Rattle.sampler.specs.declared.Month.{Month}
@@ -24,8 +23,8 @@ divided_pair s n = pair_of (up s 1600) (up n 1400)
 
 -- the first month that breaks a rule gives the answer, with its index, counted from i; else y
 abbrev pub unless_at : Checked → ℕ → Result Pair Refusal → Result Pair Refusal
-unless_at Passed i y = y
-unless_at (Broken rule) i y = Err (record { rule = rule; at = i })
+unless_at (Ok tt) i y = y
+unless_at (Err rule) i y = Err (record { rule = rule; at = i })
 
 abbrev pub months_checked : ℕ → List Month → Result Pair Refusal → Result Pair Refusal
 months_checked i [] y = y

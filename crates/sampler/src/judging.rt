@@ -11,8 +11,8 @@ ghost use Rattle.sampler.specs.SampleAnswers.{with_pair, keyed, checked_first, s
 
 use crate::years::year_pair;
 use crate::{Month, Pair, Sampled};
-use judgement::{JudgementAnswer, judge};
-use site::{Checked, Refusal, Site, check_site};
+use judgement::judge;
+use site::{Refusal, Site, check_site};
 
 // The site with the pair put into its field 0F.
 #[tactic(auto, unfolding(crate::specs::SampleAnswers::with_pair))]
@@ -30,10 +30,7 @@ fn with_pair(site: Site, pair: Pair) -> Site
 fn judge_pair(site: Site, pair: Pair) -> Result<Sampled, Refusal>
     ensures { result ≡ keyed pair (judgement_answer (with_pair site pair)) }
 {
-    let judged = match judge(with_pair(site, pair)) {
-        JudgementAnswer::Given(judged) => judged,
-        JudgementAnswer::Refused(rule) => return Err(Refusal::from(rule)),
-    };
+    let judged = judge(with_pair(site, pair))?;
     Ok(Sampled { pair, judged })
 }
 
@@ -42,10 +39,8 @@ fn judge_pair(site: Site, pair: Pair) -> Result<Sampled, Refusal>
 pub fn refuse_checked(site: Site, refusal: Refusal) -> Result<Sampled, Refusal>
     ensures { result ≡ checked_first (site_rule site) (Err refusal) }
 {
-    match check_site(site) {
-        Checked::Broken(rule) => Err(Refusal::from(rule)),
-        Checked::Passed => Err(refusal),
-    }
+    check_site(site)?;
+    Err(refusal)
 }
 
 // The year comes first: where it has a pair, the judgement's own check is the site's, so that a site is checked once.

@@ -1,14 +1,21 @@
-use Rattle.std.proofs.Common.{sym, ◌∙◌, arith}
-use Rattle.record.proofs.OuterLaws.{read_none, read_some}
-use Rattle.record.proofs.RoundTrip.{read_answers}
+use Rattle.std.proofs.Common.{sym, arith}
+use Rattle.std.proofs.lemmas.Result.{err_from_is_err_and}
+use Rattle.record.proofs.RoundTrip.{read_answers, read_none, read_refused, read_whole, read_more}
 use Rattle.record.proofs.outer.read_record.Goals as goal
 
-pub returns-then-file-eq0 : goal.returns-then-file-eq0
-returns-then-file-eq0 c =
-    let h = read_answers _ _ (λ i. omega (arith, c.type_inv.file i)) (c.refused_read.ensures ∙ sym (read_none _ c.if-file-eq0.true)) in
-    record { answer = h.0; numbers = h.1.0; written_again = h.1.1 }
+pub returns-then-is_empty : goal.returns-then-is_empty
+returns-then-is_empty c =
+    read_answers _ _ (λ i. omega (arith, c.type_inv.file i)) (rw c.into.ensures (read_none _ (sym c.if-is_empty.ensures)))
+
+pub returns-in_err-site : goal.returns-in_err-site
+returns-in_err-site c =
+    let p = err_from_is_err_and c.from_residual.result c.from_residual.ensures.1 in
+    read_answers _ _ (λ i. omega (arith, c.type_inv.file i)) (rw (p.1, p.2) (read_refused _ (sym c.if-is_empty.ensures) _ (sym c.in_err-site.ensures.answer)))
+
+pub returns-then-next-file : goal.returns-then-next-file
+returns-then-next-file c =
+    read_answers _ _ (λ i. omega (arith, c.type_inv.file i)) (read_more _ (sym c.if-is_empty.ensures) _ (sym c.in_ok-site.ensures.answer) c.if-next-file.true)
 
 pub returns : goal.returns
 returns c =
-    let h = read_answers _ _ (λ i. omega (arith, c.type_inv.file i)) (read_some _ c.if-file-eq0.false _ _ c.read_at.ensures.answer c.only_one.ensures) in
-    record { answer = h.0; numbers = h.1.0; written_again = h.1.1 }
+    read_answers _ _ (λ i. omega (arith, c.type_inv.file i)) (read_whole _ (sym c.if-is_empty.ensures) _ (sym c.in_ok-site.ensures.answer) c.if-next-file.false)

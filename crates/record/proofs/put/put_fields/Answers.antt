@@ -1,22 +1,22 @@
--- The first k fields stand in the buffer, one after another.
-use Rattle.std.proofs.Common.{get_or, arith}
-use Rattle.site.specs.Values.{due}
+use Rattle.std.proofs.Common.{arith}
 use Rattle.field.specs.Field.{site_kind}
-use Rattle.output.proofs.WritingLaws.{then, room, kept}
-use Rattle.output.proofs.EachLaws.{each_more, each_fits}
-use Rattle.record.proofs.EncodeLaws.{field_at, fields_each}
+use Rattle.record.specs.Fields.{encode_fields}
+use Rattle.output.proofs.WritingLaws.{nothing, kept}
+use Rattle.record.proofs.EncodeLaws.{fields_more, fields_long}
+use Rattle.record.proofs.Tags.{tags_none}
 use Rattle.record.proofs.put.put_fields.Goals as goal
 
-pub put_field-o-requires : goal.put_field-o-requires
-put_field-o-requires c =
-    let site = c.args.site in
-    let l = c.loop-k in
-    rw c.due_tag-tag.ensures
-    (room (field_at site_kind site (get_or due l.k 0)) l.invariant.2
-    (each_fits (field_at site_kind site) c.args.at due l.k 0 c.loop-k-test.true (rw (← fields_each site_kind site due) c.requires)))
+pub put_field-end-requires : goal.put_field-end-requires
+put_field-end-requires c =
+    omega (arith, c.loop-tag.invariant.room, fields_long site_kind c.args.site c.loop-tag.tag c.loop-tag-test.true)
 
-pub loop-k-preserved : goal.loop-k-preserved
-loop-k-preserved c =
-    let l = c.loop-k in
-    let w = then l.invariant.2 (rw c.due_tag-tag.ensures at c.put_field-o.ensures) in
-    (omega arith, kept w, rw (each_more (field_at site_kind c.args.site) due l.k 0 c.loop-k-test.true) w)
+pub loop-tag-preserved : goal.loop-tag-preserved
+loop-tag-preserved c =
+    record {
+      room = omega (arith, c.loop-tag.invariant.room, fields_long site_kind c.args.site c.loop-tag.tag c.loop-tag-test.true, kept c.put_field-end.ensures, c.put_field-end.ensures.next);
+      all = λ b r w. c.loop-tag.invariant.all b r (fields_more site_kind c.args.site c.loop-tag.tag c.loop-tag-test.true c.put_field-end.ensures w);
+    }
+
+pub returns : goal.returns
+unfolding encode_fields
+returns c = c.loop-tag.invariant.all _ _ (rw (tags_none c.loop-tag.tag c.loop-tag-test.false) (nothing _ _))

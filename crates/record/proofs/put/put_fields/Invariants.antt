@@ -1,14 +1,16 @@
-use Prim.Native.Nat.{◌-◌, ◌≤◌}
-use mathlib.Core.Path.{◌≡◌}
-use lib.ListN.{length, take}
+use Prim.Native.Nat.{ℕ, ◌+◌, ◌≤◌}
+use mathlib.Core.List.{List}
+use lib.ListN.{length}
 use Rattle.site.specs.Values.{due}
 use Rattle.field.specs.Field.{site_kind}
-use Rattle.output.specs.Writing.{Wrote, each}
-use Rattle.record.proofs.EncodeLaws.{field_at}
+use Rattle.output.specs.Writing.{Wrote}
+use Rattle.record.specs.Fields.{encode_fields}
+use Rattle.record.proofs.Tags.{tags_from}
 use Rattle.record.proofs.put.put_fields.Given as goal
 
-abbrev pub invariant-loop-k : goal.invariant-loop-k
-invariant-loop-k l = (l.k ≤ 15) × (length l.buf ≡ length l.initial.buf) × Wrote l.initial.buf l.at (each (field_at site_kind l.site) (take l.k due)) l.buf l.o
-
-abbrev pub decreases-loop-k : goal.decreases-loop-k
-decreases-loop-k l = 15 - l.k
+-- there is room for the fields still due, and with them all are written
+abbrev pub invariant-loop-tag : goal.invariant-loop-tag
+invariant-loop-tag l = record {
+  room : l.end + length (encode_fields site_kind (tags_from l.tag) l.site) ≤ length l.buf;
+  all : (b : List ℕ) (r : ℕ) → Wrote l.buf l.end (encode_fields site_kind (tags_from l.tag) l.site) b r → Wrote l.initial.buf l.at (encode_fields site_kind due l.site) b r;
+}

@@ -1,30 +1,36 @@
-use Rattle.std.proofs.Common.{◌≡◌, length, sym, arith, rules}
+use Rattle.std.proofs.Common.{◌≡◌, Err, length, sym, arith, rules}
 use Rattle.site.specs.declared.Site.{Site}
 use Rattle.field.proofs.FieldValueLaws.{unmapped}
+use Rattle.field.specs.Field.{site_kind}
 use Rattle.field.specs.Clean.{Sized}
-use Rattle.record.proofs.EncodeLaws.{record_length}
+use Rattle.record.proofs.EncodeLaws.{encode_length, record_length, record_wrote}
 use Rattle.record.proofs.RecordWritten.{write_broken, write_short, write_whole}
 use Rattle.record.proofs.writer.write_record.Goals as goal
 
 -- the site's arrays have the lengths of their types
-sized : (s : Site) → length s.name ≡ 8 → length s.stand ≡ 4 → Sized s
+sized : (s : Site) → length s.name.bytes ≡ 8 → length s.stand.entries ≡ 4 → Sized s
 sized s n e = record { name = n; stand = e }
 
-pub returns-in-Broken : goal.returns-in-Broken
-returns-in-Broken c =
-    let h = write_broken c.args.site (sized _ (search rules) (search (rules, unmapped))) _ _ (sym c.in-Broken.ensures.answer) in
-    record { answer = h.0; buffer = h.1.0; numbers = h.1.1.0; read_again = h.1.1.1 }
+pub returns-in_err-check_site : goal.returns-in_err-check_site
+returns-in_err-check_site c =
+    let said : c.from_residual.result ≡ Err (record { rule = c.in_err-check_site.field-0.0; at = 0 }) = search rules in
+    rw said (write_broken c.args.site (sized _ (search rules) (search (rules, unmapped))) _ _ (sym c.in_err-check_site.ensures.answer))
 
 pub returns-then-buf-body : goal.returns-then-buf-body
 returns-then-buf-body c =
     let z = sized c.args.site (search rules) (search (rules, unmapped)) in
-    let passed = sym c.in-Passed.ensures.answer in
-    let h = write_short c.args.site z _ passed (omega (arith, record_length _ z passed, c.body_len-body.ensures)) in
-    record { answer = h.0; buffer = h.1.0; numbers = h.1.1.0; read_again = h.1.1.1 }
+    let passed = sym c.in_ok-check_site.ensures.answer in
+    rw c.into.ensures (write_short c.args.site z _ passed (omega (arith, record_length _ z passed)))
+
+pub put_fields-requires : goal.put_fields-requires
+put_fields-requires c =
+    let z = sized c.args.site (search rules) (search (rules, unmapped)) in
+    omega (arith, encode_length site_kind c.args.site, record_length _ z (sym c.in_ok-check_site.ensures.answer), c.put_head-start.ensures.next, c.put_head-start.auto.buf)
 
 pub returns : goal.returns
 returns c =
     let z = sized c.args.site (search rules) (search (rules, unmapped)) in
-    let passed = sym c.in-Passed.ensures.answer in
-    let h = write_whole c.args.site z _ passed (omega (arith, record_length _ z passed, c.body_len-body.ensures)) c.put_record-end.ensures in
-    record { answer = h.0; buffer = h.1.0; numbers = h.1.1.0; read_again = h.1.1.1 }
+    let passed = sym c.in_ok-check_site.ensures.answer in
+    let long = record_length _ z passed in
+    write_whole c.args.site z _ passed (omega (arith, long))
+    (record_wrote c.args.site (omega (arith, long, encode_length site_kind c.args.site)) c.put_head-start.ensures c.put_fields.ensures)
