@@ -3,10 +3,9 @@ use Prim.Native.Nat.{ℕ, ◌≤◌, ◌<◌}
 use mathlib.Core.Path.{◌≡◌, ◌∙◌}
 use native.Mathlib.Omega.{arith}
 use native.Mathlib.Nat.{mod-eq_of_lt}
-use Rattle.site.specs.Refusal.{rule_number}
+use Rattle.site.specs.Refusal.{rule_number, Checked}
 use Rattle.site.specs.declared.Rule.{Rule}
 use Rattle.site.specs.declared.Rule.TheVariants.{NoBytes, OuterCut, OuterTag, TooMany, InnerCut, InnerTag, BadLength, OutOfRange, NotRising, SharesNotWhole, BufferShort, BadConcentration, NoReading, PairTooLarge}
-use Rattle.site.specs.declared.Checked.{Checked}
 use Rattle.output.specs.declared.Written.{Written}
 use Rattle.output.specs.declared.Written.TheVariants.{Count, Refused}
 use Rattle.output.specs.Output.{write_answer}

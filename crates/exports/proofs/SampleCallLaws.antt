@@ -9,8 +9,8 @@ use Rattle.site.specs.Bytes.{tabulate}
 use Rattle.site.specs.Check.{site_rule}
 use Rattle.site.specs.declared.Rule.{Rule}
 use Rattle.site.specs.declared.Rule.TheVariants.{BadLength, BufferShort}
-use Rattle.site.specs.declared.Checked.{Checked}
-use Rattle.site.specs.declared.Checked.TheVariants.{Passed, Broken}
+use Rattle.site.specs.Refusal.{Checked}
+use Rattle.std.specs.Prelude.{Ok, Err}
 use Rattle.site.specs.declared.Site.{Site}
 use Rattle.site.specs.ByCheck.{answer_if}
 use Rattle.loads.specs.Terms.{Terms}
@@ -50,7 +50,7 @@ module _ (b m : List ℕ) where
   unfolding sample_in months_length answer_if
   months_length_lem h n = rw (as_site b h, ne_eqb (length m) 204 n) (refused_first (site_rule (site_in b)))
     where
-      refused_first : (c : Checked) → checked_first c (checked_first (Broken BadLength) (year_answer (site_in b) (year_of (months_in m)))) ≡ checked_first c (Refused BadLength 0)
+      refused_first : (c : Checked) → checked_first c (checked_first (Err BadLength) (year_answer (site_in b) (year_of (months_in m)))) ≡ checked_first c (Refused BadLength 0)
       refused_first c = refl
 
   pub site_length : (length b ≡ 50 → ⊥) → sample_in b m ≡ Refused BadLength 0
@@ -71,14 +71,14 @@ module _ (b m : List ℕ) where
   at_most_12 = checked_at (value_check b) _ (checked_at (months_length m) _ (year_at (site_in b) (months_in m) twelve))
 
   -- what is given is the call's own answer for the site and the months
-  whole_given : (p : Sampled) → sample_in b m ≡ Given p → (site_rule (site_in b) ≡ Passed) × ByKey (site_in b) (months_in m) p
+  whole_given : (p : Sampled) → sample_in b m ≡ Given p → (site_rule (site_in b) ≡ Ok tt) × ByKey (site_in b) (months_in m) p
   unfolding sample_in answer_if sample_answer
   whole_given p e =
       let c = checked_given (value_check b) _ p e in
       let d = checked_given (months_length m) _ p c.1 in
       sample_given (site_in b) (months_in m) p (passing (site_rule (site_in b)) (value_passes b c.0) d.1)
     where
-      passing : (k : Checked) → k ≡ Passed → {a : SampleAnswer} → a ≡ Given p → checked_first k a ≡ Given p
+      passing : (k : Checked) → k ≡ Ok tt → {a : SampleAnswer} → a ≡ Given p → checked_first k a ≡ Given p
       passing k f g = rw (f, g)
 
 -- ---- what the ten numbers say
@@ -97,12 +97,12 @@ module _ (s : Site) (S N : ℕ) where
   unfolding judged_numbers judgement_numbers site_load_numbers judged_of
   of_pair = refl
 
-  marked : site_rule s ≡ Passed → Tells 0 1 (mark_number (judged_of (with_pair s S N)).verdict) (terms_of s) S N
+  marked : site_rule s ≡ Ok tt → Tells 0 1 (mark_number (judged_of (with_pair s S N)).verdict) (terms_of s) S N
   unfolding judged_of with_pair
   marked p =
       subst (λ (t : Terms). Tells 0 1 (mark_number (judged_of (with_pair s S N)).verdict) t S N) (pair_terms s S N) (mark_tells (with_pair s S N) (pair_rule s S N ∙ p))
 
-module _ (s : Site) (ms : List Month) (p : Sampled) (given : (site_rule s ≡ Passed) × ByKey s ms p) (rest : List ℕ) where
+module _ (s : Site) (ms : List Month) (p : Sampled) (given : (site_rule s ≡ Ok tt) × ByKey s ms p) (rest : List ℕ) where
   is_judged : p.judged ≡ judged_of (with_pair s p.sulphur p.nitrogen)
   is_judged = (judgement_given _ _ given.1.judgement).1
 

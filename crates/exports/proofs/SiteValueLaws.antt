@@ -5,12 +5,11 @@ use mathlib.Core.List.{List, ◌++◌}
 use native.Mathlib.Omega.{arith}
 use lib.ListN.{length, drop, get_or}
 use borrow.Author.Tests.{eq-eqb, ne_eqb}
-use Rattle.site.specs.Refusal.{and_then}
+use Rattle.site.specs.Refusal.{and_then, Checked}
 use Rattle.site.specs.Check.{site_rule}
 use Rattle.site.specs.declared.Rule.{Rule}
 use Rattle.site.specs.declared.Rule.TheVariants.{BadLength, BufferShort}
-use Rattle.site.specs.declared.Checked.{Checked}
-use Rattle.site.specs.declared.Checked.TheVariants.{Passed, Broken}
+use Rattle.std.specs.Prelude.{Ok, Err}
 use Rattle.site.specs.declared.Site.{Site}
 use Rattle.site.proofs.Passing.{both_passed}
 use Rattle.loads.specs.SiteTerms.{terms_of}
@@ -34,7 +33,7 @@ use Rattle.exports.proofs.CodeLaws.{count_below, by_check_decodes}
 use Rattle.exports.specs.Layout.{site_in, value_check, value_answer, site_load_numbers, mark_number, verdict_marked, judgement_numbers}
 
 module _ (b : List ℕ) where
-  pub wrong_length : (length b ≡ 50 → ⊥) → value_check b ≡ Broken BadLength
+  pub wrong_length : (length b ≡ 50 → ⊥) → value_check b ≡ Err BadLength
   unfolding value_check and_then
   wrong_length h = rw (ne_eqb (length b) 50 h)
 
@@ -59,17 +58,17 @@ module _ (b : List ℕ) (needed : ℕ) (small : needed < code_base) (xs old : Li
   promised a h = (a, (h, by_check_decodes _ needed small a))
 
   -- a refusal of the value
-  pub value_refused : (r : Rule) → value_check b ≡ Broken r → Promises (written_code (Refused r 0)) old
+  pub value_refused : (r : Rule) → value_check b ≡ Err r → Promises (written_code (Refused r 0)) old
   unfolding answer_if held_after
   value_refused r e = let q = output_broken needed (length old) (value_check b) r e in promised (rw q) (rw q)
 
   -- a slice that is too short
-  pub value_short : value_check b ≡ Passed → length old < needed → Promises (written_code (Refused BufferShort 0)) old
+  pub value_short : value_check b ≡ Ok tt → length old < needed → Promises (written_code (Refused BufferShort 0)) old
   unfolding answer_if held_after
   value_short e h = let q = output_short needed (length old) (value_check b) e h in promised (rw q) (rw q)
 
   -- success
-  pub value_written : {r : ℕ} {new : List ℕ} → value_check b ≡ Passed → length xs ≡ needed → needed ≤ length old → Wrote old 0 xs new r → Promises needed new
+  pub value_written : {r : ℕ} {new : List ℕ} → value_check b ≡ Ok tt → length xs ≡ needed → needed ≤ length old → Wrote old 0 xs new r → Promises needed new
   unfolding answer_if held_after written_code
   value_written e l h w = let q = output_whole needed (length old) (value_check b) e h in promised (rw q) (rw q (in_front w (omega arith)).1)
 
@@ -84,11 +83,11 @@ length_judged s = omega (arith, length_marked (verdict (terms_of s) s.sulphur s.
 
 -- ---- demand 3 of the mark
 
-pub mark_tells : (s : Site) → site_rule s ≡ Passed → MarkSays (mark_number (verdict (terms_of s) s.sulphur s.nitrogen)) s
+pub mark_tells : (s : Site) → site_rule s ≡ Ok tt → MarkSays (mark_number (verdict (terms_of s) s.sulphur s.nitrogen)) s
 unfolding mark_number
 mark_tells s p = verdict_tells (terms_of s) (site_bounds s p) s.sulphur s.nitrogen mark_number refl (λ r a n. refl) (λ e. omega arith)
 
-pub value_passes : (b : List ℕ) → value_check b ≡ Passed → site_rule (site_in b) ≡ Passed
+pub value_passes : (b : List ℕ) → value_check b ≡ Ok tt → site_rule (site_in b) ≡ Ok tt
 unfolding value_check
 value_passes b e = (both_passed _ _ e).1
 
@@ -97,10 +96,10 @@ unfolding verdict_marked verdict_numbers mark_number
 mark_at Within rest = refl
 mark_at (Over g x y) rest = refl
 
-counted_passed : (c : Checked) (n : ℕ) {k : ℕ} → write_answer c n ≡ Count k → c ≡ Passed
+counted_passed : (c : Checked) (n : ℕ) {k : ℕ} → write_answer c n ≡ Count k → c ≡ Ok tt
 unfolding answer_if
-counted_passed Passed n e = refl
-counted_passed (Broken r) n e = let z : ◌≡◌ {A = ℕ} 0 1 = cc in absurd (omega arith)
+counted_passed (Ok tt) n e = refl
+counted_passed (Err r) n e = let z : ◌≡◌ {A = ℕ} 0 1 = cc in absurd (omega arith)
 
 -- ---- what the numbers say, where they were written
 
@@ -108,7 +107,7 @@ module _ (b : List ℕ) (needed : ℕ) (small : needed < code_base) (xs old new 
   -- the count says that the value passed and that the numbers stand in front
   in_place : {r : ℕ}
       → r ≡ written_code (value_answer b needed (length old)) → new ≡ held_after (output_rule (value_check b) needed (length old)) xs old
-      → r ≡ needed → (value_check b ≡ Passed) × (new ≡ xs ++ drop (length xs) old)
+      → r ≡ needed → (value_check b ≡ Ok tt) × (new ≡ xs ++ drop (length xs) old)
   unfolding held_after
   in_place a h e =
       let passed = output_passed needed (length old) (value_check b) (counted_passed _ needed (count_below _ a (omega arith))) in
@@ -116,7 +115,7 @@ module _ (b : List ℕ) (needed : ℕ) (small : needed < code_base) (xs old new 
 
   -- so what they then say is promised beside the rest
   said : {r : ℕ} {A Says : Type 0}
-      → (value_check b ≡ Passed → new ≡ xs ++ drop (length xs) old → Says)
+      → (value_check b ≡ Ok tt → new ≡ xs ++ drop (length xs) old → Says)
       → (r ≡ written_code (value_answer b needed (length old))) × ((new ≡ held_after (output_rule (value_check b) needed (length old)) xs old) × A)
       → (r ≡ written_code (value_answer b needed (length old)))
       × ((new ≡ held_after (output_rule (value_check b) needed (length old)) xs old) × (A × (r ≡ needed → Says)))

@@ -1,17 +1,14 @@
 -- The calls on a site value: its 50 bytes, in the order of the site's values, numbers of two bytes with the high byte first; its check; and
 -- the numbers of its loads and of its judgement.
-use Rattle.std.specs.Prelude.{ℕ, List, [], ◌∷◌, ◌++◌, eqb, get_or, length}
+use Rattle.std.specs.Prelude.{ℕ, List, [], ◌∷◌, ◌++◌, eqb, get_or, length, Ok, Err}
 use Rattle.site.specs.Choice.{pick}
-use Rattle.site.specs.Refusal.{and_then}
+use Rattle.site.specs.Refusal.{and_then, Checked}
 use Rattle.site.specs.Check.{site_rule}
 use Rattle.numbers.specs.TwoBytes.{word_at}
 use Rattle.site.specs.Bytes.{name_in, entry_at}
 use Rattle.site.specs.declared.Site.{Site}
 use Rattle.site.specs.declared.Rule.TheVariants.{BadLength}
-use Rattle.site.specs.declared.Checked.{Checked}
-use Rattle.site.specs.declared.Checked.TheVariants.{Passed, Broken}
-use Rattle.output.specs.declared.Written.{Written}
-use Rattle.output.specs.Output.{output_rule, write_answer}
+use Rattle.output.specs.Output.{Written, output_rule, write_answer}
 use Rattle.loads.specs.SiteTerms.{terms_of}
 use Rattle.loads.specs.CriticalLoads.{loads_of, load_numbers}
 use Rattle.judgement.specs.declared.Judged.{Judged}
@@ -21,16 +18,14 @@ use Rattle.judgement.specs.Verdicts.{verdict, verdict_numbers}
 
 unfoldable pub site_in : List ℕ → Site
 site_in b = record {
-  name = name_in b;
-  name_len = get_or b 8 0;
+  name = record { bytes = name_in b; len = get_or b 8 0 };
   parent = get_or b 9 0;
   clay = get_or b 10 0;
   sand = get_or b 11 0;
   depth = get_or b 12 0;
   drainage = get_or b 13 0;
   percolation = word_at b 14;
-  stand = entry_at b 16 ∷ entry_at b 20 ∷ entry_at b 24 ∷ entry_at b 28 ∷ [];
-  entries = get_or b 32 0;
+  stand = record { entries = entry_at b 16 ∷ entry_at b 20 ∷ entry_at b 24 ∷ entry_at b 28 ∷ []; count = get_or b 32 0 };
   immobilisation = word_at b 33;
   available = get_or b 35 0;
   base_deposition = word_at b 36;
@@ -42,9 +37,13 @@ site_in b = record {
   nitrogen = word_at b 48;
 }
 
--- rule 7 for the length of the bytes, then the rules of the site
+-- rule 7 for the length of the bytes
+unfoldable pub value_length : List ℕ → Checked
+value_length b = pick (eqb (length b) 50) (Ok tt) (Err BadLength)
+
+-- then the rules of the site
 unfoldable pub value_check : List ℕ → Checked
-value_check b = and_then (pick (eqb (length b) 50) Passed (Broken BadLength)) (site_rule (site_in b))
+value_check b = and_then (value_length b) (site_rule (site_in b))
 
 -- the answer where `needed` numbers are to stand in a slice of `room`
 abbrev pub value_answer : List ℕ → (needed room : ℕ) → Written

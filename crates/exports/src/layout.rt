@@ -3,36 +3,32 @@ ghost use Rattle.std.specs.Prelude.{◌≡◌};
 ghost use Rattle.exports.specs.Layout.{site_in};
 
 use numbers::{byte, word_at};
-use site::{Entry, Site, entry_at, name_in};
-
-#[tactic(auto, unfolding(crate::specs::Layout::site_in))]
-fn stand(b: &[u8]) -> [Entry; 4]
-    ensures { result ≡ (site_in b.now).stand }
-{
-    let e0 = entry_at(b, 16);
-    let e1 = entry_at(b, 20);
-    let e2 = entry_at(b, 24);
-    let e3 = entry_at(b, 28);
-    [e0, e1, e2, e3]
-}
+use site::{Name, Site, Stand, entry_at, name_in};
 
 #[tactic(auto, unfolding(crate::specs::Layout::site_in))]
 pub fn site_in(b: &[u8]) -> Site
     ensures { result ≡ site_in b.now }
 {
-    let name = name_in(b);
-    let stand = stand(b);
     Site {
-        name,
-        name_len: byte(b, 8),
+        name: Name {
+            bytes: name_in(b),
+            len: byte(b, 8),
+        },
         parent: byte(b, 9),
         clay: byte(b, 10),
         sand: byte(b, 11),
         depth: byte(b, 12),
         drainage: byte(b, 13),
         percolation: word_at(b, 14),
-        stand,
-        entries: byte(b, 32),
+        stand: Stand {
+            entries: [
+                entry_at(b, 16),
+                entry_at(b, 20),
+                entry_at(b, 24),
+                entry_at(b, 28),
+            ],
+            count: byte(b, 32),
+        },
         immobilisation: word_at(b, 33),
         available: byte(b, 35),
         base_deposition: word_at(b, 36),

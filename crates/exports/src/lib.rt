@@ -4,6 +4,7 @@
 mod codes;
 mod file_calls;
 mod layout;
+mod numbers;
 mod record_calls;
 mod sample_calls;
 mod value_calls;

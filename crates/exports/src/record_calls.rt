@@ -3,20 +3,22 @@ ghost use Rattle.std.specs.Prelude.{◌≡◌};
 ghost use Rattle.record.specs.Outer.{read_record};
 ghost use Rattle.exports.specs.Codes.{written_code, Decodes, rewrite_answer, rewrite_held};
 
-use crate::codes::{refusal_code, written_code};
-use record::{Outcome, read_record, write_record};
+use crate::codes::written_code;
+use record::{read_record, write_record};
+use site::Refusal;
+
+fn rewrite(input: &[u8], out: &mut [u8]) -> Result<usize, Refusal>
+    ensures answer { result ≡ rewrite_answer (read_record input.now) input.now out.old }
+    ensures buffer { out.new ≡ rewrite_held (read_record input.now) input.now out.old }
+{
+    write_record(read_record(input)?, out)
+}
 
 #[unsafe(no_mangle)]
 pub extern "C" fn forest_rewrite(input: &[u8], out: &mut [u8]) -> u64
-    ensures answer { result ≡ written_code (rewrite_answer (read_record input.now).outcome input.now out.old) }
-    ensures buffer { out.new ≡ rewrite_held (read_record input.now).outcome input.now out.old }
-    ensures decoded { Decodes (rewrite_answer (read_record input.now).outcome input.now out.old) result }
+    ensures answer { result ≡ written_code (rewrite_answer (read_record input.now) input.now out.old) }
+    ensures buffer { out.new ≡ rewrite_held (read_record input.now) input.now out.old }
+    ensures decoded { Decodes (rewrite_answer (read_record input.now) input.now out.old) result }
 {
-    let read = read_record(input);
-    let site = read.site;
-    let outcome = read.outcome;
-    match outcome {
-        Outcome::Refused { rule, at } => refusal_code(rule, at),
-        Outcome::Accepted => written_code(write_record(site, out)),
-    }
+    written_code(rewrite(input, out))
 }

@@ -50,9 +50,9 @@ pub extern "C" fn forest_pages(file: &[u8], out: &mut [u8]) -> u64
 
 #[unsafe(no_mangle)]
 pub extern "C" fn forest_rewrite(input: &[u8], out: &mut [u8]) -> u64
-    ensures answer { result ≡ written_code (rewrite_answer (read_record input.now).outcome input.now out.old) }
-    ensures buffer { out.new ≡ rewrite_held (read_record input.now).outcome input.now out.old }
-    ensures decoded { Decodes (rewrite_answer (read_record input.now).outcome input.now out.old) result }
+    ensures answer { result ≡ written_code (rewrite_answer (read_record input.now) input.now out.old) }
+    ensures buffer { out.new ≡ rewrite_held (read_record input.now) input.now out.old }
+    ensures decoded { Decodes (rewrite_answer (read_record input.now) input.now out.old) result }
 {
     exports::forest_rewrite(input, out)
 }
