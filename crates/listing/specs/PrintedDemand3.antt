@@ -1,14 +1,12 @@
 -- Demand 3 in the listing: what the last word of a record's line says, and of two records.
-use Rattle.std.specs.Prelude.{ℕ, suc, ◌+◌, ◌<◌, ◌≡◌, List, [], length, get_or, take}
+use Rattle.std.specs.Prelude.{ℕ, suc, ◌+◌, ◌<◌, ◌≡◌, List, [], length, get_or, take, Ok}
 use Rattle.site.specs.declared.Site.{Site}
 use Rattle.judgement.specs.Balance.{Says}
 use Rattle.judgement.specs.Less.{Less, Stays}
 use Rattle.field.specs.Field.{blank_site}
-use Rattle.output.specs.declared.Written.{Written}
-use Rattle.output.specs.declared.Written.TheVariants.{Count}
+use Rattle.output.specs.Output.{Written}
 use Rattle.text.specs.Listing.{head_text}
 use Rattle.text.specs.Words.{split, last_word, line_at}
-use Rattle.record.specs.Result.{good}
 use Rattle.record.specs.File.{contents}
 
 -- The text t has the header, then a line for each site of ss, and nothing behind the last 0A; the last word of each site's line says
@@ -21,11 +19,11 @@ pub record LinesSay (ss : List Site) (t : List ℕ) : Type 0 where
 
 -- where the checks let the file f pass, the text t says `Say` of its sites
 abbrev pub TextSays : (List Site → List ℕ → Type 0) → List ℕ → List ℕ → Type 0
-TextSays Say f t = (ss : List Site) → contents f ≡ good ss → Say ss t
+TextSays Say f t = (ss : List Site) → contents f ≡ Ok ss → Say ss t
 
 -- the same of the text that a call has written into a buffer
 abbrev pub WrittenSays : (List Site → List ℕ → Type 0) → List ℕ → List ℕ → Written → Type 0
-WrittenSays Say f out r = (n : ℕ) → r ≡ Count n → TextSays Say f (take n out)
+WrittenSays Say f out r = (n : ℕ) → r ≡ Ok n → TextSays Say f (take n out)
 
 -- demand 3 in a listing t of the file f, and in a listing that was written: every site's line says whether its balances close
 abbrev pub Demand3 : List ℕ → List ℕ → Type 0
@@ -39,7 +37,7 @@ WrittenDemand3 f out r = WrittenSays LinesSay f out r
 -- the second one in the text y, and it is not `over`. `mark` says how the mark of a record is read in a text.
 abbrev pub MarksNeverWorse : (mark : ℕ → List ℕ → List ℕ) → (f x g y : List ℕ) → Type 0
 MarksNeverWorse mark f x g y =
-    (ss ts : List Site) → contents f ≡ good ss → contents g ≡ good ts → (k l : ℕ) → k < length ss → l < length ts
+    (ss ts : List Site) → contents f ≡ Ok ss → contents g ≡ Ok ts → (k l : ℕ) → k < length ss → l < length ts
     → Less (get_or ss k blank_site) (get_or ts l blank_site)
     → Stays (mark k x) (mark l y)
 

@@ -6,26 +6,19 @@ ghost use Rattle.listing.specs.Reports.{report_of};
 ghost use Rattle.listing.specs.PrintedDemand3.{WrittenDemand3};
 
 use crate::walking::walk_file;
-use output::Written;
-use record::Outcome;
+use site::Refusal;
 use text::{put_listing, put_refusal};
 
 // The listing, or the line of the refusal.
-pub fn report(file: &[u8], out: &mut [u8]) -> Written
+pub fn report(file: &[u8], out: &mut [u8]) -> Result<usize, Refusal>
     ensures answer { result ≡ text_answer (report_of file.now) out.old }
     ensures buffer { out.new ≡ held (report_of file.now) out.old }
     ensures numbers { written_numbers result ≡ held_numbers (report_of file.now) out.old }
     ensures enough { RoomEnough (report_of file.now) out.old result }
     ensures demand3 { WrittenDemand3 file.now out.new result }
 {
-    let w = walk_file(file);
-    let o = w.outcome;
-    match o {
-        Outcome::Refused { rule, at } => put_refusal(out, rule, at),
-        Outcome::Accepted => {
-            let rows = w.rows;
-            let n = w.count;
-            put_listing(out, rows, n)
-        }
+    match walk_file(file) {
+        Ok(rows) => put_listing(out, &rows),
+        Err(refusal) => put_refusal(out, refusal),
     }
 }
