@@ -6,7 +6,7 @@ use mathlib.Core.List.{List, [], ◌∷◌, map}
 use native.Mathlib.Omega.{arith}
 use lib.ListN.{length, get_or, length-map}
 use Rattle.site.specs.declared.Site.{Site}
-use Rattle.site.specs.declared.Checked.TheVariants.{Passed}
+use Rattle.std.specs.Prelude.{Ok}
 use Rattle.site.specs.Check.{site_rule}
 use Rattle.site.specs.Values.{name_byte, value_rule}
 use Rattle.std.specs.List.{list_all}
@@ -23,7 +23,6 @@ use Rattle.text.specs.Words.{last_word, line_at, free}
 use Rattle.text.specs.Marks.{Plain}
 use Rattle.text.proofs.WordLaws.{free-cons}
 use Rattle.text.proofs.MarkLaws.{mark_of, line_count, line-header, line_behind}
-use Rattle.record.specs.Result.{good}
 use Rattle.record.specs.File.{contents}
 use Rattle.field.proofs.All.{all_at}
 use Rattle.record.proofs.SiteFile.{sites_checked}
@@ -31,19 +30,19 @@ use Rattle.listing.specs.PrintedDemand3.{LinesSay}
 use Rattle.listing.specs.Rows.{row_by, row_of}
 use Rattle.site.proofs.MapLaws.{get_d_map}
 
-pub says : (s : Site) → site_rule s ≡ Passed → Says (verdict_word (row_of s).verdict) s
+pub says : (s : Site) → site_rule s ≡ Ok tt → Says (verdict_word (row_of s).verdict) s
 unfolding row_of row_by
 says s p = judged_says s p
 
 -- a name has none of the bytes that are not a name's, so no 0A and no space
 name_free : (b : ℕ) → name_byte b ≡ false → (xs : List ℕ) → list_all name_byte xs ≡ true → free b xs ≡ true
-unfolding list_all free
+unfolding free
 name_free b n [] e = refl
 name_free b n (x ∷ xs) e =
     let first = and_l (name_byte x) (list_all name_byte xs) e in
     free-cons b x xs (λ q. false≢true (sym n ∙ ap name_byte (sym q) ∙ first)) (name_free b n xs (and_r (name_byte x) (list_all name_byte xs) e))
 
-pub site_name_free : (b : ℕ) → name_byte b ≡ false → (s : Site) → site_rule s ≡ Passed → free b (name_text (row_of s)) ≡ true
+pub site_name_free : (b : ℕ) → name_byte b ≡ false → (s : Site) → site_rule s ≡ Ok tt → free b (name_text (row_of s)) ≡ true
 unfolding row_of row_by name_text value_rule
 site_name_free b n s p = name_free b n _ (ranged_passed _ (site_passed s p 0 (omega arith)).1)
 
@@ -56,8 +55,8 @@ unfolding name_byte
 no_space = refl
 
 -- demand 3 in the listing
-module _ (f : List ℕ) (ss : List Site) (e : contents f ≡ good ss) where
-  pub passed : (k : ℕ) → k < length ss → site_rule (get_or ss k blank_site) ≡ Passed
+module _ (f : List ℕ) (ss : List Site) (e : contents f ≡ Ok ss) where
+  pub passed : (k : ℕ) → k < length ss → site_rule (get_or ss k blank_site) ≡ Ok tt
   passed k h = all_at (sites_checked f ss e).1 k blank_site h
 
   pub row_at : (k : ℕ) → k < length ss → get_or (map row_of ss) k blank_row ≡ row_of (get_or ss k blank_site)

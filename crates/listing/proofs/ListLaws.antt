@@ -6,26 +6,22 @@ use native.Mathlib.Omega.{arith}
 use lib.ListN.{length, take, length-map}
 use lib.Seq.{take_at}
 use Rattle.site.specs.declared.Site.{Site}
-use Rattle.site.specs.declared.Rule.{Rule}
-use Rattle.record.specs.declared.Outcome.TheVariants.{Accepted, Refused as NotAccepted}
-use Rattle.output.specs.declared.Written.{Written}
-use Rattle.output.specs.declared.Written.TheVariants.{Count, Refused}
+use Rattle.std.specs.Prelude.{Ok, Err}
+use Rattle.site.specs.declared.Refusal.{Refusal}
+use Rattle.text.specs.declared.Row.{Row}
 use Rattle.text.specs.TextLengths.{most_text}
 use Rattle.text.specs.Listing.{listing}
 use Rattle.text.specs.RefusalLine.{refusal}
-use Rattle.output.specs.Output.{written_numbers}
+use Rattle.output.specs.Output.{Written, written_numbers}
 use Rattle.text.specs.TextAnswer.{RoomEnough}
 use Rattle.text.specs.Marks.{Marked}
 use Rattle.output.proofs.OutputLaws.{count_is, refused_at_0}
 use Rattle.text.proofs.TextAnswers.{AnsweredWithin, Answered, Clauses, clauses_then, by_clauses, by_clauses_then, written}
-use Rattle.listing.specs.declared.Walked.{Walked}
-use Rattle.record.specs.Result.{good, fault}
 use Rattle.record.specs.File.{Contents, contents}
 use Rattle.site.specs.Ranges.{most_records}
 use Rattle.record.specs.Records.{most_record}
-use Rattle.record.proofs.ResultLaws.{not_good}
 use Rattle.record.proofs.SiteFile.{sites_fault_near}
-use Rattle.listing.specs.Rows.{row_of, padded, walked_of}
+use Rattle.listing.specs.Rows.{row_of, walked_of}
 use Rattle.listing.specs.FileText.{file_answer, file_numbers, file_held, FileRoom}
 use Rattle.listing.specs.Reports.{listing_of, printed, report_of}
 use Rattle.listing.specs.PrintedDemand3.{LinesSay, WrittenSays, WrittenDemand3}
@@ -34,33 +30,20 @@ use Rattle.listing.proofs.Demand3Laws.{listing_says}
 -- ---- what the walk has found
 
 -- the rows are those of the sites that the file holds
-pub record Filled (w : Walked) (c : Contents Site) : Type 0 where
+pub record Filled (rows : List Row) (c : Contents Site) : Type 0 where
   pub ss : List Site
-  pub holds : c ≡ good ss
-  pub counted : w.count ≡ length ss
-  pub rows : take w.count w.rows ≡ map row_of ss
+  pub holds : c ≡ Ok ss
+  pub rows : rows ≡ map row_of ss
 
-walked_sites : (c : Contents Site) → (walked_of c).outcome ≡ Accepted → Filled (walked_of c) c
-unfolding walked_of padded
-walked_sites (good ss) e = record { ss = ss; holds = refl; counted = refl; rows = take_at (map row_of ss) _ (length ss) (length-map ss row_of) }
-walked_sites (fault rule at) e = let z : ◌≡◌ {A = ℕ} 0 1 = cc in absurd (omega arith)
-
-pub found_sites : {w : Walked} (c : Contents Site) → w ≡ walked_of c → w.outcome ≡ Accepted → Filled w c
-found_sites c is e = rw is (walked_sites c (rw is at e))
-
-walked_fault : (c : Contents Site) {rule : Rule} {at : ℕ} → (walked_of c).outcome ≡ NotAccepted rule at → c ≡ fault rule at
+pub found_sites : (c : Contents Site) {rows : List Row} → walked_of c ≡ Ok rows → Filled rows c
 unfolding walked_of
-walked_fault (good ss) e = cc
-walked_fault (fault rule at) e = cc
+found_sites (Ok ss) {rows} e = let same : map row_of ss ≡ rows = cc in record { ss = ss; holds = refl; rows = sym same }
+found_sites (Err r) e = cc
 
-pub found_fault : {w : Walked} (c : Contents Site) {rule : Rule} {at : ℕ} → w ≡ walked_of c → w.outcome ≡ NotAccepted rule at → c ≡ fault rule at
-found_fault c is e = walked_fault c (rw is at e)
-
--- what a call has written of the rows, by the sites
-pub by_sites : {w : Walked} {c : Contents Site} (x : Filled w c) (d : List ℕ) {e : List ℕ} {r : Written}
-    → Clauses (listing (take w.count w.rows)) d e r (RoomEnough (listing (take w.count w.rows)) d r × Marked (take w.count w.rows) e r)
-    → Answered (listing (map row_of x.ss)) d e r
-by_sites x d p = rw (← x.rows) (by_clauses_then p)
+pub found_fault : (c : Contents Site) {r : Refusal} → walked_of c ≡ Err r → c ≡ Err r
+unfolding walked_of
+found_fault (Ok ss) e = cc
+found_fault (Err k) e = cc
 
 -- ---- a text of the sites, and the listing
 
@@ -72,7 +55,7 @@ module _ (most : ℕ) (text : List Site → List ℕ) (Say : List Site → List 
       (r ≡ file_answer text (contents f) d)
       × ((e ≡ file_held text (contents f) d) × ((written_numbers r ≡ file_numbers text (contents f) d) × (FileRoom most text (contents f) d r × WrittenSays Say f e r)))
 
-  module _ (ss : List Site) (h : contents f ≡ good ss) {e : List ℕ} {r : Written} (a : AnsweredWithin most (text ss) d e r) where
+  module _ (ss : List Site) (h : contents f ≡ Ok ss) {e : List ℕ} {r : Written} (a : AnsweredWithin most (text ss) d e r) where
     enough : FileRoom most text (contents f) d r
     enough ts g = let same : ss ≡ ts = cc in rw (← same) a.enough
 
@@ -83,30 +66,30 @@ module _ (most : ℕ) (text : List Site → List ℕ) (Say : List Site → List 
     unfolding file_answer file_held file_numbers
     filed_sites says = (rw h a.answer, (rw h a.buffer, (rw h a.numbers, (enough, says_so says))))
 
-  pub filed_fault : {rule : Rule} {at : ℕ} → contents f ≡ fault rule at → FileClauses d (Refused rule at)
+  pub filed_fault : {k : Refusal} → contents f ≡ Err k → FileClauses d (Err k)
   unfolding file_answer file_held file_numbers written_numbers
-  filed_fault h = (rw h, (rw h, (rw h, (λ ss g. not_good (sym h ∙ g), λ n b. let z : ◌≡◌ {A = ℕ} 0 1 = cc in absurd (omega arith)))))
+  filed_fault h = (rw h, (rw h, (rw h, (λ ss g. (let z = sym h ∙ g in cc), λ n b. cc))))
 
   -- no text is longer than the longest
-  pub file_count : {n : ℕ} → file_answer text (contents f) d ≡ Count n → FileRoom most text (contents f) d (Count n) → n ≤ most
+  pub file_count : {n : ℕ} → file_answer text (contents f) d ≡ Ok n → FileRoom most text (contents f) d (Ok n) → n ≤ most
   unfolding file_answer
   file_count {n} is room = by_contents (contents f) refl is
     where
-      by_contents : (c : Contents Site) → contents f ≡ c → file_answer text c d ≡ Count n → n ≤ most
-      by_contents (good ss) q e = omega (arith, count_is _ _ e, (room ss q).bounded)
-      by_contents (fault k i) q e = let z : ◌≡◌ {A = ℕ} 0 1 = cc in absurd (omega arith)
+      by_contents : (c : Contents Site) → contents f ≡ c → file_answer text c d ≡ Ok n → n ≤ most
+      by_contents (Ok ss) q e = omega (arith, count_is _ _ e, (room ss q).bounded)
+      by_contents (Err k) q e = cc
 
   -- no refusal lies past 500 records of the greatest length
-  pub file_fault_near : {rule : Rule} {at : ℕ} → file_answer text (contents f) d ≡ Refused rule at → at ≤ most_record * most_records
+  pub file_fault_near : {k : Refusal} → file_answer text (contents f) d ≡ Err k → k.at ≤ most_record * most_records
   unfolding file_answer
-  file_fault_near {rule} {at} e = by_contents (contents f) refl e
+  file_fault_near {k} e = by_contents (contents f) refl e
     where
-      by_contents : (c : Contents Site) → contents f ≡ c → file_answer text c d ≡ Refused rule at → at ≤ most_record * most_records
-      by_contents (good ss) q e = omega (arith, refused_at_0 _ _ e)
-      by_contents (fault k i) q e = let same : i ≡ at = cc in omega (arith, sites_fault_near f q)
+      by_contents : (c : Contents Site) → contents f ≡ c → file_answer text c d ≡ Err k → k.at ≤ most_record * most_records
+      by_contents (Ok ss) q e = omega (arith, refused_at_0 _ _ e)
+      by_contents (Err j) q e = let same : j ≡ k = cc in rw (← same) (sites_fault_near f q)
 
 -- the listing
-pub listed_sites : (f d : List ℕ) {e : List ℕ} {r : Written} (ss : List Site) → contents f ≡ good ss → Answered (listing_of ss) d e r → FileClauses most_text listing_of LinesSay f d e r
+pub listed_sites : (f d : List ℕ) {e : List ℕ} {r : Written} (ss : List Site) → contents f ≡ Ok ss → Answered (listing_of ss) d e r → FileClauses most_text listing_of LinesSay f d e r
 listed_sites f d ss h a = filed_sites most_text listing_of LinesSay f d ss h a (listing_says f ss h)
 
 -- ---- the report
@@ -118,10 +101,10 @@ Reported f d e r = Clauses (report_of f) d e r (RoomEnough (report_of f) d r × 
 reported : (f d : List ℕ) {e : List ℕ} {r : Written} → Answered (report_of f) d e r → WrittenDemand3 f e r → Reported f d e r
 reported f d a w = clauses_then a w
 
-pub reported_sites : (f d : List ℕ) {e : List ℕ} {r : Written} (ss : List Site) → contents f ≡ good ss → Answered (listing (map row_of ss)) d e r → Reported f d e r
+pub reported_sites : (f d : List ℕ) {e : List ℕ} {r : Written} (ss : List Site) → contents f ≡ Ok ss → Answered (listing (map row_of ss)) d e r → Reported f d e r
 unfolding report_of printed
 reported_sites f d ss h a = reported f d (rw h a) (says_so most_text listing_of LinesSay f d ss h a (listing_says f ss h))
 
-pub reported_fault : (f d : List ℕ) {e : List ℕ} {r : Written} {rule : Rule} {at : ℕ} → contents f ≡ fault rule at → Clauses (refusal rule at) d e r (RoomEnough (refusal rule at) d r) → Reported f d e r
+pub reported_fault : (f d : List ℕ) {e : List ℕ} {r : Written} {k : Refusal} → contents f ≡ Err k → Clauses (refusal k.rule k.at) d e r (RoomEnough (refusal k.rule k.at) d r) → Reported f d e r
 unfolding report_of printed
-reported_fault f d h a = reported f d (rw h (by_clauses a)) (λ n b ss g. not_good (sym h ∙ g))
+reported_fault f d h a = reported f d (rw h (by_clauses a)) (λ n b ss g. (let z = sym h ∙ g in cc))

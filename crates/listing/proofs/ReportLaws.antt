@@ -3,11 +3,11 @@ use Prim.Native.Nat.{ℕ, suc, ◌≤◌, ◌<◌}
 use mathlib.Core.Path.{◌≡◌, ap}
 use mathlib.Core.List.{List}
 use lib.ListN.{length, get_or, take}
+use Rattle.std.specs.Prelude.{Ok}
 use Rattle.site.specs.declared.Site.{Site}
 use Rattle.judgement.specs.Balance.{Says}
 use Rattle.judgement.proofs.AtSites.{told_stays}
 use Rattle.field.specs.Field.{blank_site}
-use Rattle.record.specs.Result.{good}
 use Rattle.record.specs.File.{contents, most_file}
 use Rattle.record.proofs.SiteFile.{sites_more}
 use Rattle.text.specs.Words.{last_word, line_at}
@@ -27,7 +27,7 @@ report_take f m h = ap printed (sites_more f m h)
 
 -- less deposition is never worse, in all texts of which demand 3 holds, however the marks are read
 abbrev MarksSay : (ℕ → List ℕ → List ℕ) → List ℕ → List ℕ → Type 0
-MarksSay mark f x = (ss : List Site) → contents f ≡ good ss → (k : ℕ) → k < length ss → Says (mark k x) (get_or ss k blank_site)
+MarksSay mark f x = (ss : List Site) → contents f ≡ Ok ss → (k : ℕ) → k < length ss → Says (mark k x) (get_or ss k blank_site)
 
 pub marks_stay : (mark : ℕ → List ℕ → List ℕ) (f x g y : List ℕ) → MarksSay mark f x → MarksSay mark g y → MarksNeverWorse mark f x g y
 marks_stay mark f x g y df dg ss ts hf hg k l kl ll less =
