@@ -26,6 +26,7 @@ fn reading_of(reading: Reading) -> Result<u64, Rule>
     }
 }
 
+// The rain's rule first, then sulphate, nitrate and ammonium. With the bounds twelve months add up.
 #[tactic(auto, unfolding(crate::specs::MonthRules::month_rule, site::specs::Refusal::and_then, crate::specs::MonthRules::sulphur_of, crate::specs::MonthRules::nitrogen_of))]
 pub fn month_deposition(m: Month) -> Result<Deposition, Rule>
     ensures answer { result ≡ deposition_of m }
