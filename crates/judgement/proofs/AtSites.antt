@@ -3,16 +3,17 @@ use Prim.Native.Nat.{ℕ, ◌≤◌}
 use mathlib.Core.Path.{◌≡◌, refl}
 use mathlib.Core.Logic.{◌↔◌}
 use mathlib.Core.List.{List}
-use native.Mathlib.Omega.{arith}
 use Rattle.site.specs.Check.{site_rule}
 use Rattle.site.specs.declared.Site.{Site}
-use Rattle.site.specs.declared.Checked.TheVariants.{Passed}
+use Rattle.std.specs.Prelude.{Ok}
 use Rattle.site.proofs.BoundsLaw.{bounds}
 use Rattle.loads.specs.Terms.{TermBounds}
 use Rattle.loads.specs.SiteTerms.{terms_of}
-use Rattle.loads.specs.CriticalLoads.{cl_max_s, cl_min_n}
+use Rattle.loads.specs.CriticalLoads.{cl_max_s, cl_min_n, loads_of}
 use Rattle.site.specs.OneSite.{OneSite}
+use Rattle.loads.specs.MostTerms.{most_max_s}
 use Rattle.loads.proofs.SiteTermLaws.{term_bounds}
+use Rattle.loads.proofs.TermLaws.{cl_max_s-le}
 use Rattle.loads.proofs.OneSiteLaws.{terms_same}
 use Rattle.judgement.specs.declared.Region.TheVariants.{AcidKept}
 use Rattle.judgement.specs.declared.Verdict.TheVariants.{Within}
@@ -23,9 +24,13 @@ use Rattle.judgement.proofs.Exceeding.{zero_iff}
 use Rattle.judgement.proofs.Demand3.{within_iff_closes, verdict_tells}
 use Rattle.judgement.proofs.Monotone.{within_less, acid_less, nutrient_less}
 
-module _ (s : Site) (passed : site_rule s ≡ Passed) where
+module _ (s : Site) (passed : site_rule s ≡ Ok tt) where
   pub site_bounds : TermBounds (terms_of s)
   site_bounds = term_bounds s (bounds s passed)
+
+  pub max_s_le : (loads_of (terms_of s)).max_s ≤ most_max_s
+  unfolding loads_of
+  max_s_le = cl_max_s-le (terms_of s) site_bounds
 
   -- demand 3, for every pair
   pub demand_3 : (S N : ℕ) → (verdict (terms_of s) S N ≡ Within) ↔ Closes (terms_of s) S N
@@ -34,7 +39,7 @@ module _ (s : Site) (passed : site_rule s ≡ Passed) where
   -- and the word says so
   pub word_tells : (S N : ℕ) → Tells within over (verdict_word (verdict (terms_of s) S N)) (terms_of s) S N
   unfolding verdict_word
-  word_tells S N = verdict_tells (terms_of s) site_bounds S N verdict_word refl (λ r a n. refl) (λ e. let z : ◌≡◌ {A = ℕ} 119 111 = cc in omega arith)
+  word_tells S N = verdict_tells (terms_of s) site_bounds S N verdict_word refl (λ r a n. refl) (λ e. cc)
 
   -- the acid exceedance is 0 exactly in region 0
   pub acid_zero : (S N : ℕ) → (acid_exceedance (terms_of s) S N ≡ 0) ↔ (region (terms_of s) S N ≡ AcidKept)

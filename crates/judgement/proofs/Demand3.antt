@@ -1,18 +1,14 @@
 -- Demand 3: a pair is judged within exactly where both balances close for some whole u, i and allowed h.
 use Prim.Native.Nat.{ℕ, ◌+◌, ◌*◌, ◌-◌, ◌/◌, ◌≤◌, ◌<◌, min}
-use mathlib.Core.Bool.{Bool, true, false, ◌&&◌}
 use mathlib.Core.Path.{◌≡◌, refl, sym, ◌∙◌}
 use mathlib.Core.Logic.{◌↔◌, inl, inr}
 use mathlib.Core.List.{[], ◌∷◌}
 use native.Mathlib.Omega.{arith}
 use native.Mathlib.Nat.{mul_comm, mul-le-mul_left, le_trans, le-div_iff_mul-le}
-use borrow.Author.Tests.{eqb-true}
-use lib.Dec.{eqb}
-use Rattle.site.specs.Choice.{pick}
+use Rattle.std.proofs.lemmas.Bool.Decides.{nat_tests}
 use Rattle.loads.specs.Terms.{Terms, TermBounds}
 use Rattle.loads.specs.Hydrogen.{greatest_level}
 use Rattle.loads.specs.CriticalLoads.{cl_max_s, cl_min_n}
-use Rattle.site.proofs.Tests.{and_l, and_r}
 use Rattle.loads.proofs.TermLaws.{cl_max_s_is, cl_min_n_is, cl_nut_n_is, greatest_ceiling, greatest_limit, cl_max_s_greatest}
 use Rattle.judgement.specs.declared.Region.{Region}
 use Rattle.judgement.specs.declared.Region.TheVariants.{AcidKept, NoSulphur, Slope, Corner, SulphurOnly}
@@ -31,9 +27,6 @@ nutrient_zero N m X e p = (
 )
 
 -- the verdict is within exactly at region 0 with nutrient exceedance 0
-over≢within : {r : Region} {a n : ℕ} → Over r a n ≡ Within → ⊥
-over≢within e = let z : ◌≡◌ {A = ℕ} 0 1 = cc in omega arith
-
 number_zero : (r : Region) → region_number r ≡ 0 → r ≡ AcidKept
 number_zero AcidKept h = refl
 number_zero NoSulphur h = absurd (omega arith)
@@ -44,21 +37,11 @@ number_zero SulphurOnly h = absurd (omega arith)
 -- the numbers of a verdict, for an acid exceedance that is 0 in region 0
 pub numbers_of_lem : (r : Region) (a n : ℕ) → (r ≡ AcidKept → a ≡ 0) → verdict_numbers (verdict_of r a n) ≡ region_number r ∷ a ∷ n ∷ []
 unfolding verdict_of verdict_numbers
-numbers_of_lem r a n zero = go (eqb (region_number r) 0 && eqb n 0) refl
-  where
-    go : (t : Bool) → eqb (region_number r) 0 && eqb n 0 ≡ t → verdict_numbers (pick t Within (Over r a n)) ≡ region_number r ∷ a ∷ n ∷ []
-    go true e =
-        let here = number_zero r (eqb-true _ _ (and_l (eqb (region_number r) 0) (eqb n 0) e)) in
-        rw (zero here, here, eqb-true n 0 (and_r (eqb (region_number r) 0) (eqb n 0) e))
-    go false e = refl
+numbers_of_lem r a n zero = grind (arith, nat_tests, number_zero)
 
 within_needs : (r : Region) (a n : ℕ) → verdict_of r a n ≡ Within → (r ≡ AcidKept) × (n ≡ 0)
 unfolding verdict_of
-within_needs r a n h = go (eqb (region_number r) 0 && eqb n 0) refl h
-  where
-    go : (t : Bool) → eqb (region_number r) 0 && eqb n 0 ≡ t → pick t Within (Over r a n) ≡ Within → (r ≡ AcidKept) × (n ≡ 0)
-    go true e p = (number_zero r (eqb-true _ _ (and_l (eqb (region_number r) 0) (eqb n 0) e)), eqb-true n 0 (and_r (eqb (region_number r) 0) (eqb n 0) e))
-    go false e p = absurd (over≢within p)
+within_needs r a n h = grind (arith, nat_tests, number_zero)
 
 within_where : {r : Region} (a : ℕ) {n : ℕ} → r ≡ AcidKept → n ≡ 0 → verdict_of r a n ≡ Within
 unfolding verdict_of
@@ -128,6 +111,6 @@ module _ (t : Terms) (b : TermBounds t) where
         }
         go (Over r a n) c = record {
           either = inr (o r a n);
-          closes = (λ e. absurd (differ (sym e ∙ o r a n)), λ k. absurd (over≢within (c.1 k)));
-          otherwise = (λ e k. over≢within (c.1 k), λ not. o r a n);
+          closes = (λ e. absurd (differ (sym e ∙ o r a n)), λ k. let w = c.1 k in cc);
+          otherwise = (λ e k. let w = c.1 k in cc, λ not. o r a n);
         }

@@ -1,18 +1,17 @@
 -- The acid regions on plain numbers.
 use Prim.Native.Nat.{ℕ, ◌+◌, ◌*◌, ◌-◌, ◌≤◌, ◌<◌}
 use mathlib.Core.Bool.{false, ◌&&◌, ◌||◌}
-use mathlib.Core.Path.{◌≡◌, refl, ap}
+use mathlib.Core.Path.{◌≡◌}
 use mathlib.Core.Logic.{inr, ⊎_elim}
 use native.Mathlib.Omega.{arith}
-use native.Mathlib.Nat.{mul-zero, mul-le-mul}
+use native.Mathlib.Nat.{mul-zero}
 use borrow.Author.Tests.{le-leb, lt-leb, lt-ltb, le-ltb}
 use lib.Dec.{leb}
-use Rattle.site.specs.Ranges.{deposition_range}
+use Rattle.std.proofs.lemmas.Bool.Decides.{nat_tests}
 use Rattle.site.proofs.Tests.{le_or_lt, lt_or_le}
 use Rattle.judgement.specs.declared.Region.{Region}
 use Rattle.judgement.specs.declared.Region.TheVariants.{AcidKept, NoSulphur, Slope, Corner, SulphurOnly}
-use Rattle.judgement.specs.JudgementConditions.{PairBounds}
-use Rattle.judgement.specs.Regions.{D, excess, region_number, region_of, Region0, Lies, region_0, region_1, region_2, region_3, region_4}
+use Rattle.judgement.specs.Regions.{D, excess, region_of, Region0, Lies, region_0, region_1, region_2, region_3, region_4}
 
 module _ (S N C m e : ℕ) where
   pub rest_zero : N ≤ m → e * (N - m) ≡ 0
@@ -60,42 +59,30 @@ module _ (S N C m e : ℕ) where
 
   -- region 0 is where the acid balance closes with all of m taken from N
   pub zero_closes : region_of S N C m e ≡ AcidKept → 1000 * S + e * (N - m) ≤ 1000 * C
-  zero_closes =
-      by_region (λ r. r ≡ AcidKept → 1000 * S + e * (N - m) ≤ 1000 * C) (λ v q. v)
-      (λ n g q. omega (arith, ap region_number q))
-      (λ n v t q. omega (arith, ap region_number q))
-      (λ n v t k q. omega (arith, ap region_number q))
-      (λ n v t k q. omega (arith, ap region_number q))
+  unfolding region_of
+  zero_closes q = grind (arith, nat_tests, rest_zero)
 
   pub closes_zero : 1000 * S + e * (N - m) ≤ 1000 * C → region_of S N C m e ≡ AcidKept
-  closes_zero =
-      by_region (λ r. 1000 * S + e * (N - m) ≤ 1000 * C → r ≡ AcidKept) (λ v h. refl)
-      (λ n g h. absurd (omega (arith, rest_zero n)))
-      (λ n v t h. absurd (omega arith))
-      (λ n v t k h. absurd (omega arith))
-      (λ n v t k h. absurd (omega arith))
+  unfolding region_of
+  closes_zero v = grind (arith, nat_tests)
 
   -- each region by the tests that lead to it
   pub is_four : N ≤ m → C < S → region_of S N C m e ≡ SulphurOnly
-  is_four a b =
-      by_region (λ r. r ≡ SulphurOnly) (λ v. absurd (omega (arith, rest_zero a))) (λ n g. refl)
-      (λ n v t. absurd (omega arith)) (λ n v t k. absurd (omega arith)) (λ n v t k. absurd (omega arith))
+  unfolding region_of
+  is_four a b = grind (arith, nat_tests)
 
   module _ (a : m < N) (b : 1000 * C < 1000 * S + e * (N - m)) where
     pub is_three : (N - m) * D e < e * excess S C e (N - m) → region_of S N C m e ≡ Corner
-    is_three h =
-        by_region (λ r. r ≡ Corner) (λ v. absurd (omega arith)) (λ n g. absurd (omega arith)) (λ n v t. refl)
-        (λ n v t k. absurd (omega arith)) (λ n v t k. absurd (omega arith))
+    unfolding region_of
+    is_three h = grind (arith, nat_tests)
 
     pub is_one : e * excess S C e (N - m) ≤ (N - m) * D e → S * D e < 1000 * excess S C e (N - m) → region_of S N C m e ≡ NoSulphur
-    is_one h i =
-        by_region (λ r. r ≡ NoSulphur) (λ v. absurd (omega arith)) (λ n g. absurd (omega arith)) (λ n v t. absurd (omega arith))
-        (λ n v t k. refl) (λ n v t k. absurd (omega arith))
+    unfolding region_of
+    is_one h i = grind (arith, nat_tests)
 
     pub is_two : e * excess S C e (N - m) ≤ (N - m) * D e → 1000 * excess S C e (N - m) ≤ S * D e → region_of S N C m e ≡ Slope
-    is_two h i =
-        by_region (λ r. r ≡ Slope) (λ v. absurd (omega arith)) (λ n g. absurd (omega arith)) (λ n v t. absurd (omega arith))
-        (λ n v t k. absurd (omega arith)) (λ n v t k. refl)
+    unfolding region_of
+    is_two h i = grind (arith, nat_tests)
 
   -- region 0's condition is that balance
   kept_closes : Region0 S N C m e → 1000 * S + e * (N - m) ≤ 1000 * C
@@ -123,26 +110,3 @@ module _ (S N C m e : ℕ) where
   lies_only (region_3 out n own) = is_three n (not_kept out) own
   lies_only (region_1 out n t own) = is_one n (not_kept out) t own
   lies_only (region_2 out n t k) = is_two n (not_kept out) t k
-
--- every product of the judgement, with room in 64 bits
-pub record Sizes (S N C m e : ℕ) : Type 0 where
-  pub nitrogen : e * (N - m) ≤ 65535000
-  pub square : e * e ≤ 1000000
-  pub left_three : (N - m) * (1000000 + e * e) ≤ 131070000000
-  pub right_three : e * (1000 * S + e * (N - m) - 1000 * C) ≤ 131070000000
-  pub left_one : S * (1000000 + e * e) ≤ 131070000000
-
-pub sizes : {S N C e : ℕ} (m : ℕ) → PairBounds S N C e → Sizes S N C m e
-sizes {S} {N} {C} {e} m p =
-    let n : N - m ≤ deposition_range.most = omega arith in
-    let en : e * (N - m) ≤ 65535000 = mul-le-mul p.e_most n in
-    let ee : e * e ≤ 1000000 = mul-le-mul p.e_most p.e_most in
-    let d : 1000000 + e * e ≤ 2000000 = omega arith in
-    let v : 1000 * S + e * (N - m) - 1000 * C ≤ 131070000 = omega arith in
-    record {
-      nitrogen = en;
-      square = ee;
-      left_three = mul-le-mul n d;
-      right_three = mul-le-mul p.e_most v;
-      left_one = mul-le-mul p.sulphur d;
-    }

@@ -1,7 +1,8 @@
 -- What the call answers for a site: its loads and the verdict on its own pair, or the rule that it breaks.
-use Rattle.std.specs.Prelude.{ℕ, ◌&&◌, List, ◌∷◌, ◌++◌, eqb}
+use Rattle.std.specs.Prelude.{ℕ, ◌&&◌, List, ◌∷◌, ◌++◌, eqb, Result, Ok, Err}
 use Rattle.site.specs.Choice.{pick}
 use Rattle.site.specs.declared.Site.{Site}
+use Rattle.site.specs.declared.Rule.{Rule}
 use Rattle.site.specs.Refusal.{refusal_values}
 use Rattle.site.specs.Check.{site_rule}
 use Rattle.site.specs.ByCheck.{answer_if}
@@ -9,8 +10,6 @@ use Rattle.loads.specs.Terms.{Terms}
 use Rattle.loads.specs.SiteTerms.{terms_of}
 use Rattle.loads.specs.CriticalLoads.{cl_max_s, cl_min_n, cl_max_n, cl_nut_n, loads_of, load_numbers}
 use Rattle.judgement.specs.declared.Judged.{Judged}
-use Rattle.judgement.specs.declared.JudgementAnswer.{JudgementAnswer}
-use Rattle.judgement.specs.declared.JudgementAnswer.TheVariants.{Given, Refused}
 use Rattle.judgement.specs.Regions.{region_number}
 use Rattle.judgement.specs.Verdicts.{region, acid_exceedance, nutrient_exceedance, verdict, verdict_numbers, verdict_word, within, over}
 
@@ -18,17 +17,17 @@ use Rattle.judgement.specs.Verdicts.{region, acid_exceedance, nutrient_exceedanc
 unfoldable pub judged_of : Site → Judged
 judged_of s = record { loads = loads_of (terms_of s); verdict = verdict (terms_of s) s.sulphur s.nitrogen }
 
-unfoldable pub judgement_answer : Site → JudgementAnswer
-judgement_answer s = answer_if Given Refused (site_rule s) (judged_of s)
+unfoldable pub judgement_answer : Site → Result Judged Rule
+judgement_answer s = answer_if Ok Err (site_rule s) (judged_of s)
 
 -- the values of each case: the loads, region and exceedances, and the word's bytes; or the refusal's number and offset
 unfoldable pub judged_values : Judged → List ℕ
 judged_values j =
     load_numbers j.loads ++ verdict_numbers j.verdict ++ verdict_word j.verdict
 
-unfoldable pub judgement_values : JudgementAnswer → List ℕ
-judgement_values (Given j) = judged_values j
-judgement_values (Refused r) = refusal_values r
+unfoldable pub judgement_values : Result Judged Rule → List ℕ
+judgement_values (Ok j) = judged_values j
+judgement_values (Err r) = refusal_values r
 
 -- what these values are for a pair: the four loads, its region and both exceedances, and the word, where within needs region 0 and
 -- nutrient exceedance 0

@@ -1,7 +1,6 @@
 -- Less deposition is never worse.
-use Rattle.std.specs.Prelude.{ℕ, ◌≤◌, ◌≡◌, List}
+use Rattle.std.specs.Prelude.{ℕ, ◌≤◌, ◌≡◌, List, Ok}
 use Rattle.site.specs.declared.Site.{Site}
-use Rattle.site.specs.declared.Checked.TheVariants.{Passed}
 use Rattle.site.specs.Check.{site_rule}
 use Rattle.site.specs.OneSite.{OneSite}
 use Rattle.loads.specs.SiteTerms.{terms_of}
@@ -26,4 +25,4 @@ pub record NoWorse (s t : Site) : Type 0 where
 
 -- at every site that passes the check
 abbrev pub NeverWorse : Type 0
-NeverWorse = (s t : Site) → site_rule s ≡ Passed → Less s t → NoWorse s t
+NeverWorse = (s t : Site) → site_rule s ≡ Ok tt → Less s t → NoWorse s t

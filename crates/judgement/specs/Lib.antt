@@ -3,5 +3,4 @@ pub mod Verdicts
 pub mod Balance
 pub mod Less
 pub mod Answers
-pub mod JudgementConditions
 pub mod Cases

@@ -1,61 +1,26 @@
-// The exceedances of a pair, on plain numbers.
-ghost use Rattle.std.specs.Prelude.{◌≡◌, ◌+◌, ◌*◌, ◌-◌, ◌≤◌, ◌<◌};
-ghost use Rattle.loads.specs.Rounding.{up};
-ghost use Rattle.judgement.specs.JudgementConditions.{LeftBounds, Own};
-ghost use Rattle.judgement.specs.Regions.{D, excess, acid_in};
+// The acid exceedance of a pair.
+ghost use Rattle.std.specs.Prelude.{◌≡◌};
+ghost use Rattle.judgement.specs.Regions.{Lies, acid_in};
 
 use crate::Region;
+use crate::position::Position;
 
-// x / d, up
-#[tactic(auto, unfolding(loads::specs::Rounding::up))]
-fn up_by(x: u64, d: u64) -> u64
-    requires { (0 < d) × (x + d < 1000000000000) }
-    ensures { (result ≡ up x d) × (result ≤ 1000000000000) }
-{
-    (x + (d - 1)) / d
-}
-
-// Region 1: left is N − CLminN.
-fn acid_no_sulphur(s: u64, left: u64, c: u64, e: u64) -> u64
-    requires { LeftBounds s left e × (1000 * c ≤ e * left) }
-    ensures { result ≡ s + up (e * left - 1000 * c) e }
-{
-    s + up_by(e * left - 1000 * c, e)
-}
-
-// Region 2.
-#[tactic(auto, using(loads::proofs::Numbers::prod), unfolding(crate::specs::Regions::D, crate::specs::Regions::excess))]
-fn acid_slope(s: u64, left: u64, c: u64, e: u64) -> u64
-    requires { LeftBounds s left e × (1000 * c ≤ 1000 * s + e * left) }
-    ensures { result ≡ up ((1000 + e) * excess s c e left) (D e) }
-{
-    up_by(
-        (1000 + e) * (1000 * s + e * left - 1000 * c),
-        1_000_000 + e * e,
-    )
-}
-
-// The acid exceedance of a pair in its region.
-#[tactic(auto, unfolding(crate::specs::Regions::acid_in))]
-pub fn acid_in(region: Region, s: u64, n: u64, c: u64, m: u64, e: u64) -> u64
-    requires { Own region s n c m e }
-    ensures { result ≡ acid_in region s n c m e }
-{
-    match region {
-        Region::AcidKept => 0,
-        Region::NoSulphur => acid_no_sulphur(s, n - m, c, e),
-        Region::Slope => acid_slope(s, n - m, c, e),
-        Region::Corner => n - m + s - c,
-        Region::SulphurOnly => s - c,
+impl Position {
+    // In the region where the pair lies; there no difference is below 0.
+    #[tactic(auto, using(loads::proofs::Numbers::up_is, crate::proofs::NotCutOff::in_one, crate::proofs::NotCutOff::in_three, crate::proofs::NotCutOff::in_four), unfolding(crate::specs::Regions::acid_in))]
+    pub fn acid(self, region: Region) -> u64
+        requires { Lies self.sulphur self.nitrogen self.loads.max_s self.loads.min_n self.undenitrified region }
+        ensures { result ≡ acid_in region self.sulphur self.nitrogen self.loads.max_s self.loads.min_n self.undenitrified }
+    {
+        let left = self.left();
+        let c = self.loads.max_s;
+        let e = self.undenitrified;
+        match region {
+            Region::AcidKept => 0,
+            Region::NoSulphur => self.sulphur + (e * left - 1000 * c).div_ceil(e),
+            Region::Slope => ((1000 + e) * self.excess()).div_ceil(self.divisor()),
+            Region::Corner => left + self.sulphur - c,
+            Region::SulphurOnly => self.sulphur - c,
+        }
     }
-}
-
-// What lies above a limit, at least 0.
-pub fn above(n: u64, limit: u64) -> u64
-    ensures { result ≡ n - limit }
-{
-    if n <= limit {
-        return 0;
-    }
-    n - limit
 }

@@ -3,30 +3,29 @@
 
 mod exceedance;
 mod judging;
+mod position;
 mod regions;
 
 pub use judging::judge;
 use loads::Loads;
-pub use regions::region_number;
-use site::Rule;
 
-// The acid regions of document 01, "Judging a pair S, N", by the condition under which each is the first that applies. n is N − CLminN.
-#[derive(Clone, Copy)]
+// The acid regions of document 01, "Judging a pair S, N", by number, with the condition under which each is the first that applies. n is N − CLminN.
+#[derive(Clone, Copy, Debug, PartialEq, Eq)]
 pub enum Region {
-    // 0: S ≤ CLmaxS, and n ≤ 0 or v ≤ 0
-    AcidKept,
-    // 1: 1000 × v > S × D
-    NoSulphur,
-    // 2: otherwise
-    Slope,
-    // 3: e × v > n × D
-    Corner,
-    // 4: n ≤ 0
-    SulphurOnly,
+    // S ≤ CLmaxS, and n ≤ 0 or v ≤ 0
+    AcidKept = 0,
+    // 1000 × v > S × D
+    NoSulphur = 1,
+    // otherwise
+    Slope = 2,
+    // e × v > n × D
+    Corner = 3,
+    // n ≤ 0
+    SulphurOnly = 4,
 }
 
 // Within, or over with the region and both exceedances. Over by nitrogen as a nutrient alone has region 0.
-#[derive(Clone, Copy)]
+#[derive(Clone, Copy, Debug, PartialEq, Eq)]
 pub enum Verdict {
     Within,
     Over {
@@ -36,15 +35,8 @@ pub enum Verdict {
     },
 }
 
-#[derive(Clone, Copy)]
+#[derive(Clone, Copy, Debug, PartialEq, Eq)]
 pub struct Judged {
     pub loads: Loads,
     pub verdict: Verdict,
-}
-
-// The loads and the verdict, or the rule that the site breaks.
-#[derive(Clone, Copy)]
-pub enum JudgementAnswer {
-    Given(Judged),
-    Refused(Rule),
 }

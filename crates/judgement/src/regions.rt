@@ -1,46 +1,37 @@
-// The acid region of a pair, on plain numbers: c is CLmaxS, m is CLminN, e the part that is not denitrified, per mille.
+// The acid region of a pair.
 ghost use Rattle.std.specs.Prelude.{◌≡◌};
-ghost use Rattle.judgement.specs.JudgementConditions.{PairBounds};
 ghost use Rattle.judgement.specs.Regions.{region_number, region_of};
 
 use crate::Region;
+use crate::position::Position;
 
-pub fn region_number(region: Region) -> u64
-    ensures { result ≡ region_number region }
-{
-    match region {
-        Region::AcidKept => 0,
-        Region::NoSulphur => 1,
-        Region::Slope => 2,
-        Region::Corner => 3,
-        Region::SulphurOnly => 4,
+impl From<Region> for u64 {
+    ghost from_gives = { λ region n. n ≡ region_number region };
+
+    fn from(region: Region) -> u64 {
+        region as u64
     }
 }
 
-#[tactic(auto, using(crate::proofs::RegionLaws::sizes, crate::proofs::RegionLaws::rest_zero, crate::proofs::RegionLaws::closes_zero, crate::proofs::RegionLaws::is_four, crate::proofs::RegionLaws::is_three, crate::proofs::RegionLaws::is_one, crate::proofs::RegionLaws::is_two), unfolding(crate::specs::Regions::D, crate::specs::Regions::excess))]
-pub fn region_of(s: u64, n: u64, c: u64, m: u64, e: u64) -> Region
-    requires { PairBounds s n c e }
-    ensures { result ≡ region_of s n c m e }
-{
-    if n <= m {
-        if s <= c {
-            return Region::AcidKept;
+impl Position {
+    // The first region that applies.
+    #[tactic(auto, unfolding(crate::specs::Regions::region_of, crate::specs::Regions::excess))]
+    pub fn region(self) -> Region
+        ensures { result ≡ region_of self.sulphur self.nitrogen self.loads.max_s self.loads.min_n self.undenitrified }
+    {
+        let left = self.left();
+        let v = self.excess();
+        let d = self.divisor();
+        if self.sulphur <= self.loads.max_s && (left == 0 || v == 0) {
+            Region::AcidKept
+        } else if left == 0 {
+            Region::SulphurOnly
+        } else if left * d < self.undenitrified * v {
+            Region::Corner
+        } else if self.sulphur * d < 1000 * v {
+            Region::NoSulphur
+        } else {
+            Region::Slope
         }
-        return Region::SulphurOnly;
     }
-    let left = n - m;
-    let acid = 1000 * s + e * left;
-    let limit = 1000 * c;
-    if acid <= limit {
-        return Region::AcidKept;
-    }
-    let v = acid - limit;
-    let d = 1_000_000 + e * e;
-    if left * d < e * v {
-        return Region::Corner;
-    }
-    if s * d < 1000 * v {
-        return Region::NoSulphur;
-    }
-    Region::Slope
 }
