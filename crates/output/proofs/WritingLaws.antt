@@ -1,13 +1,14 @@
 -- Laws of `write` and `Wrote`. None has a side condition but those that speak of room.
 use Prim.Native.Nat.{ℕ, suc, ◌+◌, ◌≤◌, ◌<◌}
 use mathlib.Core.Path.{◌≡◌, refl, sym, ap, ◌∙◌}
-use mathlib.Core.List.{List, [], ◌∷◌, ◌++◌}
+use mathlib.Core.List.{List, [], ◌∷◌, ◌++◌, append_assoc}
 use native.Mathlib.Nat.{add-zero, zero-add}
 use native.Mathlib.Omega.{arith}
 use lib.ListN.{length, set, take, drop, length-set, length-append}
 use lib.Seq.{take-length, set_comm, sets, sets-eq}
 use borrow.Rule.Slice.PartMut.{put_mid}
 use Rattle.std.proofs.lemmas.Slice.{put_mid-paste}
+use Rattle.std.proofs.lemmas.List.{take-append-drop}
 use Rattle.output.specs.Writing.{write, Wrote, WroteIf}
 
 module _ {A : Type 0} where
@@ -88,8 +89,18 @@ module _ {A : Type 0} where
   pub wrote_some : {d e : List A} {at r : ℕ} {xs : List A} → at + length xs ≤ length d → Wrote d at xs e r → WroteIf d at xs e r
   wrote_some h w = record { fits = λ l. w; short = λ l. absurd (omega arith) }
 
+  -- a run that is known by the parts before it and from it on
+  pub wrote_parts : {d e : List A} {at r : ℕ} {xs : List A} → r ≡ at + length xs → r ≤ length d → take at e ≡ take at d → drop at e ≡ xs ++ drop r d → WroteIf d at xs e r
+  wrote_parts {d} {e} {at} {r} {xs} q h before after =
+      let text : e ≡ take at d ++ xs ++ drop (at + length xs) d = sym (take-append-drop at e) ∙ rw (before, after, q) (simp append_assoc) in
+      wrote_some (omega arith) (record { next = q; text = text ∙ sym (write-eq d at xs (omega arith)) })
+
   -- what a copy of xs to the elements from `at` on leaves
   pub copied : (d : List A) (at : ℕ) (xs ys : List A) (k : ℕ) → ys ≡ xs → k ≡ length xs → at + length xs ≤ length d → WroteIf d at xs (put_mid at k d ys) (at + length xs)
   copied d at xs ys k e n h =
       let left : put_mid at k d ys ≡ take at d ++ xs ++ drop (at + length xs) d = put_mid-paste at k d ys xs (length xs) e (sym n) refl ∙ simp take-length in
       wrote_some h (record { next = refl; text = left ∙ sym (write-eq d at xs h) })
+
+  -- a store, then a run from the next index on
+  pub stored_then : {d e : List A} {at r : ℕ} {x : A} {xs : List A} → WroteIf (set d at x) (at + 1) xs e r → at + length (x ∷ xs) ≤ length d → Wrote d at (x ∷ xs) e r
+  stored_then {d} {at = at} {x = x} w h = then (stored d at x) (w.fits (simp length-set (omega arith)))

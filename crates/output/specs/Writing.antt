@@ -1,5 +1,5 @@
 -- What stands in a buffer after a run of stores.
-use Rattle.std.specs.Prelude.{ℕ, suc, ◌+◌, ◌≤◌, ◌<◌, ◌≡◌, List, [], ◌∷◌, ◌++◌, length, set}
+use Rattle.std.specs.Prelude.{ℕ, suc, ◌+◌, ◌≤◌, ◌<◌, ◌≡◌, List, [], ◌∷◌, length, set, flat_map}
 
 -- d with xs stored from index at; a store past the end changes nothing
 unfoldable pub write : {A : Type 0} → List A → ℕ → List A → List A
@@ -18,5 +18,4 @@ pub record WroteIf {A : Type 0} (d : List A) (at : ℕ) (xs : List A) (e : List 
 
 -- the texts of the elements, one after another
 unfoldable pub each : {A B : Type 0} → (A → List B) → List A → List B
-each f [] = []
-each f (x ∷ xs) = f x ++ each f xs
+each f xs = flat_map f xs

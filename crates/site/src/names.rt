@@ -1,5 +1,5 @@
 // Rule 8 for the name: A–Z, 0–9, hyphen.
-ghost use Rattle.std.specs.Prelude.{◌≡◌, take};
+ghost use Rattle.std.specs.Prelude.{◌≡◌, ◌≤◌, length, take};
 ghost use Rattle.std.specs.List.{list_all};
 ghost use Rattle.site.specs.Values.{name_byte, ranged};
 
@@ -17,7 +17,8 @@ impl Name {
     // No bytes stand past the eighth.
     #[tactic(auto, using(crate::proofs::PartLaws::take_min))]
     pub fn as_slice(&self) -> &[u8]
-        ensures { result.now ≡ take self.now.len self.now.bytes }
+        ensures bytes { result.now ≡ take self.now.len self.now.bytes }
+        ensures short { length result.now ≤ 8 }
     {
         &self.bytes[..usize::from(self.len).min(8)]
     }

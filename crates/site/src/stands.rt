@@ -1,5 +1,5 @@
 // Rules 8, 9 and 10 for the stand.
-ghost use Rattle.std.specs.Prelude.{◌&&◌, ◌≡◌, ◌+◌, ◌*◌, ◌≤◌, leb, eqb, take};
+ghost use Rattle.std.specs.Prelude.{◌&&◌, ◌≡◌, ◌+◌, ◌*◌, ◌≤◌, leb, eqb, length, take};
 ghost use Rattle.site.specs.Ranges.{most_entries, share_range, share_sum};
 ghost use Rattle.site.specs.Values.{entry_ranged, order_rule, stand_rule};
 
@@ -51,7 +51,8 @@ impl Stand {
     // No entries stand past the fourth.
     #[tactic(auto, using(crate::proofs::PartLaws::take_min))]
     pub fn as_slice(&self) -> &[Entry]
-        ensures { result.now ≡ take self.now.count self.now.entries }
+        ensures entries { result.now ≡ take self.now.count self.now.entries }
+        ensures short { length result.now ≤ 4 }
     {
         &self.entries[..usize::from(self.count).min(4)]
     }

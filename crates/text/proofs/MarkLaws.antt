@@ -9,16 +9,15 @@ use lib.ListN.{length, get_or}
 use Rattle.judgement.specs.declared.Verdict.{Verdict}
 use Rattle.judgement.specs.declared.Verdict.TheVariants.{Within, Over}
 use Rattle.text.specs.declared.Row.{Row}
-use Rattle.output.specs.declared.Written.{Written}
-use Rattle.text.specs.TextAnswer.{RoomEnough}
+use Rattle.std.specs.Prelude.{flat_map}
+use Rattle.output.specs.Output.{Written}
 use Rattle.text.specs.Decimal.{decimal}
-use Rattle.output.specs.Writing.{each}
 use Rattle.judgement.specs.Verdicts.{verdict_word}
 use Rattle.text.specs.Line.{blank_row, numbers_of, name_text, spaced, column, body, line}
 use Rattle.text.specs.Listing.{head_text, header, listing}
 use Rattle.text.specs.Words.{split, last_word, line_at, free}
 use Rattle.text.specs.Marks.{Plain, Marked}
-use Rattle.text.proofs.TextAnswers.{Answered, Clauses, clauses_then, written}
+use Rattle.text.proofs.TextAnswers.{AnsweredWithin, written}
 use Rattle.text.proofs.WordLaws.{split_at, split-free, split-each, free-cons, free-append, free-decimal, free-each, last_word-spaced}
 
 pub free_mark : (v : Verdict) → (free 10 (verdict_word v) ≡ true) × (free 32 (verdict_word v) ≡ true)
@@ -42,11 +41,11 @@ free-body r h =
 
 -- ---- the lines of a listing
 
-split_lines : (rs : List Row) → Plain rs → split 10 (each line rs) ≡ map body rs ++ ([] ∷ [])
+split_lines : (rs : List Row) → Plain rs → split 10 (flat_map line rs) ≡ map body rs ++ ([] ∷ [])
 unfolding line
 split_lines rs h = split-each 10 body line (λ r. refl) rs blank_row (λ k l. free-body (get_or rs k blank_row) (h k l))
 
-listing_head : (rs : List Row) → listing rs ≡ head_text ++ 10 ∷ each line rs
+listing_head : (rs : List Row) → listing rs ≡ head_text ++ 10 ∷ flat_map line rs
 unfolding listing header head_text
 listing_head rs = refl
 
@@ -56,7 +55,7 @@ split_head = split-free 10 head_text refl
 
 -- all the lines: the header, a line for each row, and nothing after the last 0A
 pub listing_lines : (rs : List Row) → Plain rs → split 10 (listing rs) ≡ head_text ∷ (map body rs ++ ([] ∷ []))
-listing_lines rs h = ap (split 10) (listing_head rs) ∙ split_at 10 head_text (each line rs) ∙ rw (split_head, split_lines rs h)
+listing_lines rs h = ap (split 10) (listing_head rs) ∙ split_at 10 head_text (flat_map line rs) ∙ rw (split_head, split_lines rs h)
 
 get_or-body : (rs : List Row) (k : ℕ) → k < length rs → get_or (map body rs ++ ([] ∷ [])) k [] ≡ body (get_or rs k blank_row)
 get_or-body [] k h = absurd (omega arith)
@@ -90,17 +89,12 @@ line_of rs k h l = ap (λ (t : List (List ℕ)). get_or t (suc k) []) (listing_l
 
 pub body_mark : (r : Row) → last_word (body r) ≡ verdict_word r.verdict
 unfolding body
-body_mark r = last_word-spaced (name_text r ++ each column (numbers_of r)) (verdict_word r.verdict) (free_mark r.verdict).1
+body_mark r = last_word-spaced (name_text r ++ flat_map column (numbers_of r)) (verdict_word r.verdict) (free_mark r.verdict).1
 
 -- the mark of line k + 1 is that of row k
 pub mark_of : (rs : List Row) (k : ℕ) → Plain rs → k < length rs → last_word (line_at (suc k) (listing rs)) ≡ verdict_word (get_or rs k blank_row).verdict
 mark_of rs k h l = ap last_word (line_of rs k h l) ∙ body_mark (get_or rs k blank_row)
 
 -- the same of what a call has written
-pub marked : (rs : List Row) (d e : List ℕ) (r : Written) → Answered (listing rs) d e r → Marked rs e r
+pub marked : {most : ℕ} (rs : List Row) (d e : List ℕ) (r : Written) → AnsweredWithin most (listing rs) d e r → Marked rs e r
 marked rs d e r a n k b p l = rw (written (listing rs) d e r a.answer a.buffer n b) (mark_of rs k p l)
-
--- the clauses of a call that lists
-pub and_marked : (rs : List Row) (d : List ℕ) {e : List ℕ} {r : Written} → Answered (listing rs) d e r
-    → Clauses (listing rs) d e r (RoomEnough (listing rs) d r × Marked rs e r)
-and_marked rs d {e} {r} a = clauses_then a (marked rs d e r a)

@@ -8,7 +8,7 @@ use borrow.Author.Tests.{eq-eqb, ne_eqb, eqb-false, ltb-true, ltb-false}
 use lib.Dec.{eqb, ltb}
 use lib.ListN.{length, get_or}
 use Rattle.text.specs.Decimal.{dec, decimal}
-use Rattle.output.specs.Writing.{each}
+use Rattle.std.specs.Prelude.{flat_map}
 use Rattle.text.specs.Line.{spaced}
 use Rattle.text.specs.Words.{cons_to, split, last_or, last_word, free}
 use Rattle.text.proofs.DecimalLaws.{dec_small, dec_step}
@@ -68,15 +68,15 @@ split-free b (x ∷ xs) h = split_false b x xs (free_false b x xs h).0 ∙ ap (c
 
 -- texts that are each ended by a b, cut at each b: the texts, and nothing behind the last b
 module _ {A : Type 0} (b : ℕ) (f g : A → List ℕ) (end : (x : A) → g x ≡ f x ++ (b ∷ [])) where
-  pub split-each : (xs : List A) (d : A) → ((k : ℕ) → k < length xs → free b (f (get_or xs k d)) ≡ true) → split b (each g xs) ≡ map f xs ++ ([] ∷ [])
-  unfolding each split
+  pub split-each : (xs : List A) (d : A) → ((k : ℕ) → k < length xs → free b (f (get_or xs k d)) ≡ true) → split b (flat_map g xs) ≡ map f xs ++ ([] ∷ [])
+  unfolding split
   split-each [] d h = refl
   split-each (x ∷ xs) d h =
       let one : split b (f x) ≡ f x ∷ [] = split-free b (f x) (h zero (omega arith)) in
-      let ih : split b (each g xs) ≡ map f xs ++ ([] ∷ []) = split-each xs d (λ k l. h (suc k) (omega arith)) in
-      ap (λ (t : List ℕ). split b (t ++ each g xs)) (end x)
-      ∙ ap (split b) (append_assoc (f x) (b ∷ []) (each g xs))
-      ∙ split_at b (f x) (each g xs)
+      let ih : split b (flat_map g xs) ≡ map f xs ++ ([] ∷ []) = split-each xs d (λ k l. h (suc k) (omega arith)) in
+      ap (λ (t : List ℕ). split b (t ++ flat_map g xs)) (end x)
+      ∙ ap (split b) (append_assoc (f x) (b ∷ []) (flat_map g xs))
+      ∙ split_at b (f x) (flat_map g xs)
       ∙ rw (one, ih)
 
 -- ---- free
@@ -103,10 +103,10 @@ pub free-decimal : (b n : ℕ) → b < 48 → free b (decimal n) ≡ true
 unfolding decimal
 free-decimal b n h = free-dec b n n h
 
-pub free-each : {A : Type 0} (b : ℕ) (f : A → List ℕ) (xs : List A) → ((x : A) → free b (f x) ≡ true) → free b (each f xs) ≡ true
-unfolding each free
+pub free-each : {A : Type 0} (b : ℕ) (f : A → List ℕ) (xs : List A) → ((x : A) → free b (f x) ≡ true) → free b (flat_map f xs) ≡ true
+unfolding free
 free-each b f [] h = refl
-free-each b f (x ∷ xs) h = free-append b (f x) (each f xs) (h x) (free-each b f xs h)
+free-each b f (x ∷ xs) h = free-append b (f x) (flat_map f xs) (h x) (free-each b f xs h)
 
 last_or-append : (d : List ℕ) (r : List (List ℕ)) (w : List ℕ) → last_or d (r ++ (w ∷ [])) ≡ w
 unfolding last_or

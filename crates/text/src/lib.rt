@@ -10,16 +10,15 @@ mod refusal;
 pub use columns::numbers;
 pub use decimal::put_decimal;
 use judgement::Verdict;
-pub use line::name_len;
 pub use listing::put_listing;
 use loads::Loads;
 pub use refusal::put_refusal;
+use site::Name;
 
-// What a line of the listing shows. Name bytes from `name_len` on are not shown. With the loads first a row is copied in fewer pieces.
+// What a line of the listing shows. With the loads first a row is copied in fewer pieces.
 #[derive(Clone, Copy)]
 pub struct Row {
     pub loads: Loads,
-    pub name: [u8; 8],
-    pub name_len: u8,
+    pub name: Name,
     pub verdict: Verdict,
 }

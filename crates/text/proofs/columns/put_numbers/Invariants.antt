@@ -1,11 +1,8 @@
--- The first i numbers are written.
-use Rattle.std.proofs.Common.{◌≡◌, ◌-◌, ◌≤◌, length, take}
-use Rattle.output.specs.Writing.{Wrote, each}
+-- The first numbers are written.
+use Rattle.std.proofs.Common.{take, flat_map}
+use Rattle.output.specs.Writing.{Wrote}
 use Rattle.text.specs.Line.{column}
 use Rattle.text.proofs.columns.put_numbers.Given as goal
 
-abbrev pub invariant-loop-i : goal.invariant-loop-i
-invariant-loop-i l = (l.i ≤ 7) × (length l.out ≡ length l.initial.out) × Wrote l.initial.out l.at (each column (take l.i l.ns)) l.out l.o
-
-abbrev pub decreases-loop-i : goal.decreases-loop-i
-decreases-loop-i l = 7 - l.i
+abbrev pub invariant-loop-n : goal.invariant-loop-n
+invariant-loop-n l = Wrote l.initial.out l.fn.at (flat_map column (take l.n-index l.n-items)) l.out l.at

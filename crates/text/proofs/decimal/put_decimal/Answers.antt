@@ -1,20 +1,20 @@
-use Rattle.std.proofs.Common.{length-set, arith}
-use Rattle.output.proofs.WritingLaws.{wrote_some}
-use Rattle.text.proofs.DecimalLaws.{partly_more, partly_all, length-pos}
+-- The digits that std prints end where the width says.
+use Rattle.std.proofs.Common.{◌≡◌, ◌+◌, length, ap, arith}
+use Rattle.output.proofs.WritingLaws.{wrote_parts}
+use Rattle.text.specs.Decimal.{decimal}
+use Rattle.text.proofs.DecimalLaws.{printed}
 use Rattle.text.proofs.decimal.put_decimal.Goals as goal
 
-pub overflow_sub-i : goal.overflow_sub-i
-overflow_sub-i c = let p = c.loop-rest.invariant.0 in omega (arith, p.place, length-pos c.loop-rest.rest)
+pub write_digits-requires : goal.write_digits-requires
+write_digits-requires c =
+    let e = ap length (printed c.args.n c.ranges.n.fits) in
+    grind arith
 
-pub bounds-out-i : goal.bounds-out-i
-bounds-out-i c = let p = c.loop-rest.invariant.0 in omega (arith, p.place, length-pos c.loop-rest.rest)
-
-pub loop-rest-preserved : goal.loop-rest-preserved
-loop-rest-preserved c =
-    (partly_more c.loop-rest-test.true c.loop-rest.invariant.0, simp length-set (omega arith), omega arith, omega arith, omega arith)
-
-pub bounds-out-at : goal.bounds-out-at
-bounds-out-at c = let p = c.loop-rest.invariant.0 in omega (arith, p.place, length-pos c.loop-rest.rest)
-
-pub returns : goal.returns
-returns c = wrote_some (omega arith) (partly_all c.loop-rest-test.false (omega arith) c.loop-rest.invariant.0)
+pub returns-in-Some : goal.returns-in-Some
+returns-in-Some c =
+    let same = printed c.args.n c.ranges.n.fits in
+    let e = ap length same in
+    let w = c.write_digits.ensures in
+    let ends : c.in-Some.end ≡ c.args.at + length (decimal c.args.n) = grind arith in
+    let starts : c.write_digits.result ≡ c.args.at = omega arith in
+    wrote_parts ends c.if-end-out.true (rw starts at w.before) (rw (starts, same) at w.written)

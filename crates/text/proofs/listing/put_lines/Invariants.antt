@@ -1,11 +1,8 @@
--- The first i lines are written.
-use Rattle.std.proofs.Common.{◌≡◌, ◌-◌, ◌≤◌, length, take}
-use Rattle.output.specs.Writing.{Wrote, each}
+-- The first lines are written.
+use Rattle.std.proofs.Common.{take, flat_map}
+use Rattle.output.specs.Writing.{Wrote}
 use Rattle.text.specs.Line.{line}
 use Rattle.text.proofs.listing.put_lines.Given as goal
 
-abbrev pub invariant-loop-i : goal.invariant-loop-i
-invariant-loop-i l = (l.i ≤ l.count) × (length l.out ≡ length l.initial.out) × Wrote l.initial.out l.at (each line (take l.i l.rows)) l.out l.o
-
-abbrev pub decreases-loop-i : goal.decreases-loop-i
-decreases-loop-i l = l.count - l.i
+abbrev pub invariant-loop-row : goal.invariant-loop-row
+invariant-loop-row l = Wrote l.initial.out l.fn.at (flat_map line (take l.row-index l.rows)) l.out l.at

@@ -6,18 +6,20 @@ use Rattle.text.proofs.LineLaws.{length-refusal, refusal_is}
 use Rattle.text.proofs.TextAnswers.{text_refused, text_printed}
 use Rattle.text.proofs.refusal.put_refusal.Goals as goal
 
-pub returns-then-out-need : goal.returns-then-out-need
-returns-then-out-need c =
-    let l = length-refusal c.rule_number-number.result c.args.at in
-    let a = text_refused (refused_line c.rule_number-number.result c.args.at) c.args.out.now (omega arith) (omega arith) in
-    rw (← refusal_is c.args.rule c.args.at c.rule_number-number.ensures)
+pub returns-then-out-width : goal.returns-then-out-width
+returns-then-out-width c =
+    let n = c.from-number.result in
+    let at = c.args.refused.at in
+    let l = length-refusal n at in
+    let a = text_refused (refused_line n at) c.args.out.now (omega arith) (omega arith) in
+    rw (← refusal_is c.args.refused.rule at c.from-number.ensures, c.into.ensures)
     (record { answer = a.answer; buffer = a.buffer; numbers = a.numbers; enough = a.enough })
 
 pub returns : goal.returns
 unfolding refused_line refused_word at_word
 returns c =
-    let n = c.rule_number-number.result in
-    let at = c.args.at in
+    let n = c.from-number.result in
+    let at = c.args.refused.at in
     let l = length-refusal n at in
     let first = c.put_bytes-a.ensures.fits (omega arith) in
     let number = c.put_decimal-b.ensures.fits (omega (arith, first.next)) in
@@ -25,5 +27,5 @@ returns c =
     let offset = c.put_decimal-d.ensures.fits (omega (arith, first.next, number.next, word.next)) in
     let w = then (then (then (then first number) word) offset) (stored c.put_decimal-d.new.out c.put_decimal-d.result 10) in
     let a = text_printed (refused_line n at) w (omega arith) (omega arith) in
-    rw (← refusal_is c.args.rule at c.rule_number-number.ensures)
+    rw (← refusal_is c.args.refused.rule at c.from-number.ensures)
     (record { answer = a.answer; buffer = a.buffer; numbers = a.numbers; enough = a.enough })
