@@ -25,8 +25,9 @@ pub enum Region {
 }
 
 // Within, or over with the region and both exceedances. Over by nitrogen as a nutrient alone has region 0.
-#[derive(Clone, Copy, Debug, PartialEq, Eq)]
+#[derive(Clone, Copy, Debug, Default, PartialEq, Eq)]
 pub enum Verdict {
+    #[default]
     Within,
     Over {
         region: Region,

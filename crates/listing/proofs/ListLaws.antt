@@ -3,8 +3,7 @@ use Prim.Native.Nat.{ℕ, ◌*◌, ◌≤◌}
 use mathlib.Core.Path.{◌≡◌, refl, sym, ◌∙◌}
 use mathlib.Core.List.{List, map}
 use native.Mathlib.Omega.{arith}
-use lib.ListN.{length, take, length-map}
-use lib.Seq.{take_at}
+use lib.ListN.{length, length-map}
 use Rattle.site.specs.declared.Site.{Site}
 use Rattle.std.specs.Prelude.{Ok, Err}
 use Rattle.site.specs.declared.Refusal.{Refusal}
@@ -12,15 +11,14 @@ use Rattle.text.specs.declared.Row.{Row}
 use Rattle.text.specs.TextLengths.{most_text}
 use Rattle.text.specs.Listing.{listing}
 use Rattle.text.specs.RefusalLine.{refusal}
-use Rattle.output.specs.Output.{Written, written_numbers}
-use Rattle.text.specs.TextAnswer.{RoomEnough}
-use Rattle.text.specs.Marks.{Marked}
+use Rattle.output.specs.Output.{Written, held, written_numbers}
+use Rattle.text.specs.TextAnswer.{text_answer, RoomEnough}
 use Rattle.output.proofs.OutputLaws.{count_is, refused_at_0}
-use Rattle.text.proofs.TextAnswers.{AnsweredWithin, Answered, Clauses, clauses_then, by_clauses, by_clauses_then, written}
+use Rattle.text.proofs.TextAnswers.{AnsweredWithin, Answered, Clauses, clauses_then, by_clauses, answered, written}
 use Rattle.record.specs.File.{Contents, contents}
 use Rattle.site.specs.Ranges.{most_records}
 use Rattle.record.specs.Records.{most_record}
-use Rattle.record.proofs.SiteFile.{sites_fault_near}
+use Rattle.record.proofs.SiteFile.{sites_fault_near, sites_checked}
 use Rattle.listing.specs.Rows.{row_of, walked_of}
 use Rattle.listing.specs.FileText.{file_answer, file_numbers, file_held, FileRoom}
 use Rattle.listing.specs.Reports.{listing_of, printed, report_of}
@@ -33,17 +31,25 @@ use Rattle.listing.proofs.Demand3Laws.{listing_says}
 pub record Filled (rows : List Row) (c : Contents Site) : Type 0 where
   pub ss : List Site
   pub holds : c ≡ Ok ss
-  pub rows : rows ≡ map row_of ss
+  pub lines : rows ≡ map row_of ss
 
 pub found_sites : (c : Contents Site) {rows : List Row} → walked_of c ≡ Ok rows → Filled rows c
 unfolding walked_of
-found_sites (Ok ss) {rows} e = let same : map row_of ss ≡ rows = cc in record { ss = ss; holds = refl; rows = sym same }
+found_sites (Ok ss) {rows} e = let same : map row_of ss ≡ rows = cc in record { ss = ss; holds = refl; lines = sym same }
 found_sites (Err r) e = cc
 
 pub found_fault : (c : Contents Site) {r : Refusal} → walked_of c ≡ Err r → c ≡ Err r
 unfolding walked_of
 found_fault (Ok ss) e = cc
 found_fault (Err k) e = cc
+
+-- what a call has written of the rows, by the sites
+pub by_sites : (f d : List ℕ) {rows xs : List Row} {e : List ℕ} {r : Written} (x : Filled rows (contents f)) → xs ≡ rows
+    → r ≡ text_answer (listing xs) d → e ≡ held (listing xs) d → (length xs ≤ 500 → RoomEnough (listing xs) d r) → Answered (listing (map row_of x.ss)) d e r
+by_sites f d x same a b enough =
+    let lines = same ∙ x.lines in
+    let few : length (map row_of x.ss) ≤ 500 = omega (arith, (sites_checked f x.ss x.holds).0, length-map x.ss row_of) in
+    answered (listing (map row_of x.ss)) d (rw lines at a) (rw lines at b) ((rw lines at enough) few).bounded
 
 -- ---- a text of the sites, and the listing
 

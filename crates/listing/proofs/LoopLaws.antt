@@ -5,13 +5,15 @@ use mathlib.Core.List.{List, [], ◌∷◌, ◌++◌, map, append-nil}
 use native.Mathlib.Omega.{arith}
 use lib.ListN.{length, length-append}
 use lib.Seq.{append_snoc}
-use Rattle.std.specs.Prelude.{Result, Ok, Err}
+use Rattle.std.specs.Prelude.{Ok, Err}
 use Rattle.site.specs.Ranges.{most_records}
+use Rattle.site.specs.Refusal.{rule_number}
 use Rattle.site.specs.declared.Site.{Site}
 use Rattle.site.specs.declared.Refusal.{Refusal}
 use Rattle.site.specs.declared.Rule.TheVariants.{TooMany}
 use Rattle.site.proofs.MapLaws.{map-append}
 use Rattle.record.specs.Outer.{site_at}
+use Rattle.record.specs.Result.{result_numbers}
 use Rattle.record.specs.File.{Contents, first, onto, walk_file, contents}
 use Rattle.record.proofs.FileLaws.{file_end, file_full, file_step}
 use Rattle.record.proofs.Place.{site_after, site_inside}
@@ -19,7 +21,7 @@ use Rattle.record.proofs.SiteFile.{sites_some}
 use Rattle.text.specs.declared.Row.{Row}
 use Rattle.listing.specs.declared.walking.Step.{Step}
 use Rattle.listing.specs.Rows.{row_of, step_of, walked_of}
-use Rattle.listing.proofs.StepLaws.{step_err, step_ok}
+use Rattle.listing.proofs.StepLaws.{StepOf, step_err, step_ok}
 
 -- sites in front of what the rest holds
 abbrev before : List Site → Contents Site → Contents Site
@@ -73,18 +75,39 @@ module _ {f : List ℕ} {rows : List Row} {at : ℕ} (so : SoFar f rows at) wher
     so_bad e = so_step ∙ rw (step_err (site_at f at) e)
 
     -- one more row
-    pub so_good : {t : Step} → step_of (site_at f at) ≡ Ok t → SoFar f (rows ++ (t.row ∷ [])) t.next
+    more : {t : Step} → StepOf (site_at f at) t → SoFar f (rows ++ (t.row ∷ [])) t.next
     unfolding onto
-    so_good {t} e =
-        let x = step_ok (site_at f at) e in
+    more {t} x =
         let n : length (rows ++ (t.row ∷ [])) ≡ length rows + 1 = simp length-append (omega arith) in
         record {
           ss = so.ss ++ (x.site ∷ []);
-          filled = rw (so.filled, x.row, map-append);
+          filled = ap (λ r. rows ++ (r ∷ [])) x.row ∙ ap (λ rs. rs ++ (row_of x.site ∷ [])) so.filled ∙ sym (map-append row_of so.ss (x.site ∷ []));
           few = omega arith;
           inside = site_inside f at x.is;
-          rest = so_step ∙ rw (x.is, before_first, n);
+          rest = so_step ∙ ap (λ q. before so.ss (onto q (walk_file (site_at f) (length f) (most_records - (length rows + 1))))) x.is
+              ∙ before_first so.ss x.site _ ∙ ap (λ k. before (so.ss ++ (x.site ∷ [])) (walk_file (site_at f) (length f) (most_records - k) t.next)) (sym n);
         }
+
+    pub so_good : {t : Step} → step_of (site_at f at) ≡ Ok t → SoFar f (rows ++ (t.row ∷ [])) t.next
+    so_good e = more (step_ok (site_at f at) e)
 
     pub so_on : {t : Step} → step_of (site_at f at) ≡ Ok t → at < t.next
     so_on e = omega (arith, site_after f at (step_ok (site_at f at) e).is)
+
+-- a fault of the file, as the call answers it
+module _ (f : List ℕ) {r : Refusal} (e : contents f ≡ Err r) where
+  pub fault_walked : walked_of (contents f) ≡ Err r
+  unfolding walked_of
+  fault_walked = rw e
+
+  pub fault_numbers : (rule_number r.rule, r.at) ≡ result_numbers (contents f)
+  unfolding result_numbers
+  fault_numbers = rw e
+
+ok_numbers : (c : Contents Site) {rows : List Row} → walked_of c ≡ Ok rows → (0, 0) ≡ result_numbers c
+unfolding walked_of result_numbers
+ok_numbers (Ok ss) e = refl
+ok_numbers (Err r) e = cc
+
+pub rows_numbers : (f : List ℕ) {rows : List Row} → walked_of (contents f) ≡ Ok rows → (0, 0) ≡ result_numbers (contents f)
+rows_numbers f e = ok_numbers (contents f) e

@@ -29,7 +29,7 @@ fn row_by(site: Site, judged: Judged) -> Row
     }
 }
 
-fn step(file: &[u8], at: usize) -> Result<Step, Refusal>
+fn row_at(file: &[u8], at: usize) -> Result<Step, Refusal>
     ensures { result ≡ step_of (site_at file.now at) }
 {
     let Found { site, next } = read_at(file, at)?;
@@ -54,7 +54,7 @@ pub fn walk_file(file: &[u8]) -> Result<ArrayVec<Row, 500>, Refusal>
             let rule = Rule::TooMany;
             return Err(Refusal { rule, at });
         }
-        let Step { row, next } = step(file, at)?;
+        let Step { row, next } = row_at(file, at)?;
         rows.push(row);
         at = next;
     }

@@ -23,7 +23,7 @@ pub struct Searched {
 }
 
 // Whole eq per hectare and year: CLmaxS, CLminN, CLmaxN, CLnutN.
-#[derive(Clone, Copy, Debug, PartialEq, Eq)]
+#[derive(Clone, Copy, Debug, Default, PartialEq, Eq)]
 pub struct Loads {
     pub max_s: u64,
     pub min_n: u64,

@@ -29,7 +29,7 @@ pub struct Entry {
 }
 
 // The first `len` of the bytes: the others are no part of the name.
-#[derive(Clone, Copy)]
+#[derive(Clone, Copy, Default)]
 pub struct Name {
     pub bytes: [u8; 8],
     pub len: u8,

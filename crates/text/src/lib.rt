@@ -16,7 +16,7 @@ pub use refusal::put_refusal;
 use site::Name;
 
 // What a line of the listing shows. With the loads first a row is copied in fewer pieces.
-#[derive(Clone, Copy)]
+#[derive(Clone, Copy, Default)]
 pub struct Row {
     pub loads: Loads,
     pub name: Name,
