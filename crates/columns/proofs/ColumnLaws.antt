@@ -7,7 +7,7 @@ use Rattle.std.specs.Prelude.{◌==◌, not}
 use Rattle.std.proofs.lemmas.List.Elements.{filter-append}
 use lib.ListN.{length, take, replicate}
 use lib.Seq.{take_all, take-append_seam, drop-append_seam}
-use Rattle.output.specs.Writing.{each}
+use Rattle.std.specs.List.{flat_map}
 use Rattle.text.specs.Words.{free}
 use Rattle.text.proofs.WordLaws.{free_false}
 use Rattle.columns.specs.PageLine.{left_in, right_in, in_columns, page_line}
@@ -52,18 +52,18 @@ module _ {w : ℕ} {t : List ℕ} (x : Whole w t) where
 
 -- ---- pieces
 
-cut-each : (cs : List (List ℕ)) (rest : List ℕ) → cut (map length cs) (each (λ (c : List ℕ). c) cs ++ rest) ≡ cs
-unfolding cut each
-cut-each [] rest = refl
-cut-each (c ∷ cs) rest =
-    rw (append_assoc c (each (λ (c : List ℕ). c) cs) rest, take-append_seam c (each (λ (c : List ℕ). c) cs ++ rest), drop-append_seam c (each (λ (c : List ℕ). c) cs ++ rest), cut-each cs rest)
+cut_cells : (cs : List (List ℕ)) (rest : List ℕ) → cut (map length cs) (flat_map (λ (c : List ℕ). c) cs ++ rest) ≡ cs
+unfolding cut
+cut_cells [] rest = refl
+cut_cells (c ∷ cs) rest =
+    rw (append_assoc c (flat_map (λ (c : List ℕ). c) cs) rest, take-append_seam c (flat_map (λ (c : List ℕ). c) cs ++ rest), drop-append_seam c (flat_map (λ (c : List ℕ). c) cs ++ rest), cut_cells cs rest)
 
 module _ (a b c d e f g h i : List ℕ) where
   cells : List (List ℕ)
   cells = left_in 8 a ∷ right_in 8 b ∷ right_in 8 c ∷ right_in 8 d ∷ right_in 8 e ∷ right_in 2 f ∷ right_in 7 g ∷ right_in 7 h ∷ right_in 7 i ∷ []
 
-  line_cells : page_line (a ∷ b ∷ c ∷ d ∷ e ∷ f ∷ g ∷ h ∷ i ∷ []) ≡ each (λ (c : List ℕ). c) cells ++ (32 ∷ [])
-  unfolding page_line in_columns each cells
+  line_cells : page_line (a ∷ b ∷ c ∷ d ∷ e ∷ f ∷ g ∷ h ∷ i ∷ []) ≡ flat_map (λ (c : List ℕ). c) cells ++ (32 ∷ [])
+  unfolding page_line in_columns cells
   line_cells = simp (append_assoc, append-nil)
 
   widths : map length cells ≡ column_widths
@@ -74,7 +74,7 @@ module _ (a b c d e f g h i : List ℕ) where
   cut_line =
       ap (λ (ws : List ℕ). cut ws (page_line (a ∷ b ∷ c ∷ d ∷ e ∷ f ∷ g ∷ h ∷ i ∷ []))) (sym widths)
       ∙ ap (cut (map length cells)) line_cells
-      ∙ cut-each cells (32 ∷ [])
+      ∙ cut_cells cells (32 ∷ [])
 
   -- the columns of a line of whole texts are the texts
   pub columns_back :

@@ -1,17 +1,17 @@
 -- A line of a page has 64 characters and one end.
-use Prim.Native.Nat.{ℕ, zero, suc, ◌+◌, ◌-◌, ◌≤◌}
+use Prim.Native.Nat.{ℕ, zero, suc, ◌+◌, ◌-◌}
 use mathlib.Core.Path.{◌≡◌, refl}
 use mathlib.Core.Bool.{true}
 use mathlib.Core.List.{List, [], ◌∷◌, ◌++◌, append_assoc, append-nil}
 use native.Mathlib.Omega.{arith}
 use lib.ListN.{length, get_or, take, replicate, length-append, length-take, length-replicate}
-use lib.Seq.{get_or_at, take_all}
+use lib.Seq.{get_or_at}
 use borrow.Author.Tests.{eqb-false}
 use Rattle.loads.specs.CriticalLoads.{load_numbers}
 use Rattle.judgement.specs.declared.Verdict.{Verdict}
 use Rattle.judgement.specs.declared.Verdict.TheVariants.{Within, Over}
 use Rattle.judgement.specs.Verdicts.{verdict_numbers, verdict_word}
-use Rattle.output.specs.Writing.{each}
+use Rattle.std.specs.Prelude.{codes}
 use Rattle.text.specs.declared.Row.{Row}
 use Rattle.text.specs.Decimal.{decimal}
 use Rattle.text.specs.Line.{numbers_of, name_text}
@@ -59,8 +59,7 @@ unfolding row_line
 length_row r = whole_line _
 
 -- the header, with its end, as the bytes that are written
-pub head_bytes : ended head_line
-    ≡ 105 ∷ 100 ∷ 32 ∷ 32 ∷ 32 ∷ 32 ∷ 32 ∷ 32 ∷ 32 ∷ 32 ∷ 32 ∷ 32 ∷ 109 ∷ 97 ∷ 120 ∷ 83 ∷ 32 ∷ 32 ∷ 32 ∷ 32 ∷ 109 ∷ 105 ∷ 110 ∷ 78 ∷ 32 ∷ 32 ∷ 32 ∷ 32 ∷ 109 ∷ 97 ∷ 120 ∷ 78 ∷ 32 ∷ 32 ∷ 32 ∷ 32 ∷ 110 ∷ 117 ∷ 116 ∷ 78 ∷ 114 ∷ 101 ∷ 32 ∷ 97 ∷ 99 ∷ 105 ∷ 100 ∷ 69 ∷ 120 ∷ 32 ∷ 32 ∷ 110 ∷ 117 ∷ 116 ∷ 69 ∷ 120 ∷ 118 ∷ 101 ∷ 114 ∷ 100 ∷ 105 ∷ 99 ∷ 116 ∷ 32 ∷ 10 ∷ []
+pub head_bytes : ended head_line ≡ codes "id          maxS    minN    maxN    nutNre acidEx  nutExverdict \n"
 unfolding ended head_line page_line in_columns left_in right_in head_text split cons_to
 head_bytes = refl
 
@@ -77,21 +76,16 @@ by_seven r P h = by_verdict r.verdict
 
 -- the line as it is written
 seven_bytes : (name mark : List ℕ) (a b c d e f g : ℕ)
-    → ended (page_line (line_texts name (a ∷ b ∷ c ∷ d ∷ e ∷ f ∷ g ∷ []) mark)) ≡ left_in 8 name ++ number_columns (a ∷ b ∷ c ∷ d ∷ e ∷ f ∷ g ∷ []) ++ (right_in 7 mark ++ (32 ∷ []) ++ (10 ∷ []))
-unfolding ended page_line in_columns line_texts number_columns each
+    → ended (page_line (line_texts name (a ∷ b ∷ c ∷ d ∷ e ∷ f ∷ g ∷ []) mark)) ≡ left_in 8 name ++ number_columns (a ∷ b ∷ c ∷ d ∷ e ∷ f ∷ g ∷ []) ++ (right_in 7 mark ++ codes " \n")
+unfolding ended page_line in_columns line_texts number_columns
 seven_bytes name mark a b c d e f g = simp (append_assoc, append-nil)
 
-pub row_bytes : (r : Row) → ended (row_line r) ≡ left_in 8 (name_text r) ++ number_columns (numbers_of r) ++ (right_in 7 (verdict_word r.verdict) ++ (32 ∷ []) ++ (10 ∷ []))
+pub row_bytes : (r : Row) → ended (row_line r) ≡ left_in 8 (name_text r) ++ number_columns (numbers_of r) ++ (right_in 7 (verdict_word r.verdict) ++ codes " \n")
 unfolding row_line row_texts
 row_bytes r =
     by_seven r
-    (λ ns. ended (page_line (line_texts (name_text r) ns (verdict_word r.verdict))) ≡ left_in 8 (name_text r) ++ number_columns ns ++ (right_in 7 (verdict_word r.verdict) ++ (32 ∷ []) ++ (10 ∷ [])))
+    (λ ns. ended (page_line (line_texts (name_text r) ns (verdict_word r.verdict))) ≡ left_in 8 (name_text r) ++ number_columns ns ++ (right_in 7 (verdict_word r.verdict) ++ codes " \n"))
     (seven_bytes (name_text r) (verdict_word r.verdict))
-
--- a name that its column does not cut
-pub left_short : (w : ℕ) (t : List ℕ) → length t ≤ w → left_in w t ≡ t ++ replicate (w - length t) 32
-unfolding left_in
-left_short w t h = rw (take_all w t h)
 
 -- ---- a line has one end
 

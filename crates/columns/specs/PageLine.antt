@@ -1,7 +1,6 @@
 -- A line of a page: columns without gaps between them, and one space at the end.
-use Rattle.std.specs.Prelude.{ℕ, ◌-◌, List, [], ◌∷◌, ◌++◌, map, zip, length, get_or, take, replicate}
+use Rattle.std.specs.Prelude.{ℕ, ◌-◌, List, [], ◌∷◌, ◌++◌, codes, flat_map, map, zip, length, get_or, take, replicate}
 use Rattle.judgement.specs.Verdicts.{verdict_word}
-use Rattle.output.specs.Writing.{each}
 use Rattle.text.specs.declared.Row.{Row}
 use Rattle.text.specs.Decimal.{decimal}
 use Rattle.text.specs.Line.{numbers_of, name_text}
@@ -29,7 +28,7 @@ in_columns ts =
     ++ right_in 7 (get_or ts 8 [])
 
 unfoldable pub page_line : List (List ℕ) → List ℕ
-page_line ts = in_columns ts ++ (32 ∷ [])
+page_line ts = in_columns ts ++ codes " "
 
 -- the header's words
 unfoldable pub head_line : List ℕ
@@ -54,8 +53,8 @@ abbrev pub in_column : ℕ × ℕ → List ℕ
 in_column p = right_in p.1 (decimal p.0)
 
 unfoldable pub number_columns : List ℕ → List ℕ
-number_columns ns = each in_column (zip ns number_widths)
+number_columns ns = flat_map in_column (zip ns number_widths)
 
 -- a line with its end
 unfoldable pub ended : List ℕ → List ℕ
-ended l = l ++ (10 ∷ [])
+ended l = l ++ codes "\n"

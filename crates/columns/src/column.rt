@@ -1,27 +1,33 @@
-// Spaces and numbers in a column.
-ghost use Rattle.std.specs.Prelude.{◌≡◌, ◌+◌, ◌≤◌, length, replicate};
-ghost use Rattle.output.specs.Writing.{Wrote};
+// A text or a number in a column.
+ghost use Rattle.std.specs.Prelude.{◌≡◌, length};
 ghost use Rattle.text.specs.Decimal.{decimal};
-ghost use Rattle.columns.specs.PageLine.{right_in};
+ghost use Rattle.columns.specs.PageLine.{left_in, right_in};
 
-use output::put_bytes;
 use text::put_decimal;
 
-pub fn put_spaces(out: &mut [u8], at: usize, count: usize) -> usize
-    requires { at + count ≤ length out.old }
-    ensures { Wrote out.old at (replicate count 32) out.new result }
+// A text aligned left, cut to its first characters where the column is narrower, and spaces behind it.
+pub fn put_left(column: &mut [u8], text: &[u8])
+    ensures { column.new ≡ left_in (length column.old) text.now }
 {
-    out[at..at + count].fill(32);
-    at + count
+    let n = text.len().min(column.len());
+    column.fill(b' ');
+    column[..n].copy_from_slice(&text[..n]);
 }
 
-// A number, aligned right and cut to its first digits where the column is narrower.
-pub fn put_number(out: &mut [u8], at: usize, width: usize, n: u64) -> usize
-    requires { at + width ≤ length out.old }
-    ensures { Wrote out.old at (right_in width (decimal n)) out.new result × (result ≡ at + width) }
+// The same, aligned right.
+pub fn put_right(column: &mut [u8], text: &[u8])
+    ensures { column.new ≡ right_in (length column.old) text.now }
+{
+    let n = text.len().min(column.len());
+    let at = column.len() - n;
+    column.fill(b' ');
+    column[at..].copy_from_slice(&text[..n]);
+}
+
+pub fn put_number(column: &mut [u8], n: u64)
+    ensures { column.new ≡ right_in (length column.old) (decimal n) }
 {
     let mut digits = [0u8; 20];
-    let k = put_decimal(&mut digits, 0, n).min(width);
-    let a = put_spaces(out, at, width - k);
-    put_bytes(out, a, &digits[..k])
+    let count = put_decimal(&mut digits, 0, n);
+    put_right(column, &digits[..count]);
 }

@@ -1,4 +1,4 @@
--- The lines of pages: how many, where each stands, and what one more row adds.
+-- The lines of pages: how many, and where each stands.
 use Prim.Native.Nat.{ℕ, zero, suc, ◌+◌, ◌*◌, ◌-◌, ◌/◌, ◌%◌, ◌≤◌, ◌<◌, min}
 use mathlib.Core.Path.{◌≡◌, ap, ◌∙◌}
 use mathlib.Core.Logic.{⊎_elim}
@@ -7,9 +7,9 @@ use native.Mathlib.Omega.{arith}
 use native.Mathlib.Numerals.{add-one}
 use lib.ListN.{length, get_or, take, drop, length-append, length-map, length-take, length-drop, get_or-append}
 use lib.Seq.{get_or-take, get_or-drop, get_or-append-add}
-use Rattle.site.proofs.Tests.{lt_or_le}
+use Rattle.std.proofs.lemmas.Bool.{cases_lt}
+use Rattle.std.proofs.lemmas.List.{get_or-map}
 use Rattle.text.specs.declared.Row.{Row}
-use Rattle.site.proofs.MapLaws.{get_d_map}
 use Rattle.columns.specs.PageLine.{head_line, row_line}
 use Rattle.pages.specs.Pages.{lines_on, lines_to, page_count}
 
@@ -33,7 +33,7 @@ module _ (rs : List Row) (p l : ℕ) (h : 59 * p ≤ length rs) (i : l < length 
   line_on : (n : ℕ) → p < n → get_or (lines_to rs n) (60 * p + l) [] ≡ get_or (lines_on rs p) l []
   unfolding lines_to
   line_on zero q = absurd (omega arith)
-  line_on (suc n) q = ⊎_elim (λ g. before g (line_on n g)) here (lt_or_le p n)
+  line_on (suc n) q = ⊎_elim (λ g. before g (line_on n g)) here (cases_lt p n)
     where
       before : p < n → get_or (lines_to rs n) (60 * p + l) [] ≡ get_or (lines_on rs p) l [] → get_or (lines_to rs n ++ lines_on rs n) (60 * p + l) [] ≡ get_or (lines_on rs p) l []
       before g ih =
@@ -61,5 +61,5 @@ site_at_lem rs k d h =
     let inside : m < length (take 59 (drop (59 * p) rs)) = simp (length-take, length-drop) (omega arith) in
     line_on rs p (m + 1) (omega arith) (omega (arith, length_on rs p)) (page_count (length rs)) (omega arith)
     ∙ ap (λ (j : ℕ). get_or (lines_on rs p) j []) (add-one m)
-    ∙ get_d_map row_line (take 59 (drop (59 * p) rs)) m d [] inside
+    ∙ get_or-map row_line (take 59 (drop (59 * p) rs)) m d [] inside
     ∙ ap row_line (get_or-take 59 (drop (59 * p) rs) m d (omega arith) ∙ get_or-drop (59 * p) rs m d ∙ ap (λ (j : ℕ). get_or rs j d) whole)

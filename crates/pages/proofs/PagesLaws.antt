@@ -11,7 +11,8 @@ use Rattle.site.specs.declared.Site.{Site}
 use Rattle.output.specs.declared.Written.{Written}
 use Rattle.output.specs.Output.{held}
 use Rattle.text.specs.TextAnswer.{text_answer}
-use Rattle.site.proofs.Tests.{lt_or_le}
+use Rattle.std.proofs.lemmas.Bool.{cases_lt}
+use Rattle.std.proofs.lemmas.List.{map-id}
 use Rattle.judgement.proofs.AtSites.{word_tells}
 use Rattle.field.specs.Field.{blank_site}
 use Rattle.field.specs.Clean.{AllBytes}
@@ -31,7 +32,6 @@ use Rattle.listing.specs.declared.Walked.{Walked}
 use Rattle.listing.specs.Rows.{row_of, walked_of}
 use Rattle.listing.specs.PrintedDemand3.{TextSays}
 use Rattle.listing.proofs.ListLaws.{FileClauses, filed_sites, found_sites}
-use Rattle.site.proofs.MapLaws.{map_id}
 use Rattle.listing.proofs.Demand3Laws.{passed, row_at, plain}
 use Rattle.listing.proofs.ReportLaws.{marks_stay}
 use Rattle.columns.specs.PageLine.{page_line, head_line, row_line, ended}
@@ -51,7 +51,7 @@ module _ (rs : List Row) where
   -- every line is a header or a row's
   each_line : (P : List ℕ → Type 0) → P head_line → ((k : ℕ) → k < length rs → P (row_line (get_or rs k blank_row)))
       → (i : ℕ) → i < length rs + page_count (length rs) → P (get_or (all_lines rs) i [])
-  each_line P head row i h = ⊎_elim first under (lt_or_le (i % 60) 1)
+  each_line P head row i h = ⊎_elim first under (cases_lt (i % 60) 1)
     where
       first : i % 60 < 1 → P (get_or (all_lines rs) i [])
       first z =
@@ -81,7 +81,7 @@ module _ (rs : List Row) (names : Plain rs) where
   split-pages =
       split-each 10 (λ (l : List ℕ). l) ended (λ l. refl) (all_lines rs) []
       (λ i h. each_line rs (λ l. free 10 l ≡ true) free_head (λ k g. free_row _ (names k g)) i (omega (arith, length_lines rs)))
-      ∙ ap (λ (ls : List (List ℕ)). ls ++ ([] ∷ [])) (map_id (all_lines rs))
+      ∙ ap (λ (ls : List (List ℕ)). ls ++ ([] ∷ [])) (map-id (all_lines rs))
 
   line_is : (i : ℕ) → i < length rs + page_count (length rs) → line_at i (pages rs) ≡ get_or (all_lines rs) i []
   unfolding line_at

@@ -4,7 +4,7 @@ use mathlib.Core.Path.{◌≡◌, ap}
 use native.Mathlib.Omega.{arith}
 use lib.ListN.{length, take, length-take}
 use Rattle.site.specs.declared.Site.{Site}
-use Rattle.site.specs.declared.Checked.TheVariants.{Passed}
+use Rattle.std.specs.Prelude.{Ok}
 use Rattle.site.specs.Check.{site_rule}
 use Rattle.site.specs.Values.{item_count}
 use Rattle.site.proofs.BoundsLaw.{bounds}
@@ -64,8 +64,8 @@ region_small Slope = omega arith
 region_small Corner = omega arith
 region_small SulphurOnly = omega arith
 
-module _ (s : Site) (passed : site_rule s ≡ Passed) (pair : PairRange s) where
-  name_whole : Whole 8 (take s.name_len s.name)
+module _ (s : Site) (passed : site_rule s ≡ Ok tt) (pair : PairRange s) where
+  name_whole : Whole 8 (take s.name.len s.name.bytes)
   unfolding item_count name_text row_of row_by
   name_whole =
       let few = count_parts 1 s (site_passed s passed 0 (omega arith)).0 in

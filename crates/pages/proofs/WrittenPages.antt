@@ -11,6 +11,7 @@ use Rattle.output.specs.declared.Written.TheVariants.{Count, Refused}
 use Rattle.output.specs.Output.{held}
 use Rattle.output.specs.Writing.{Wrote, each}
 use Rattle.output.proofs.EachLaws.{each_append}
+use Rattle.output.proofs.WritingLaws.{kept}
 use Rattle.text.specs.declared.Row.{Row}
 use Rattle.text.specs.TextAnswer.{text_answer}
 use Rattle.text.proofs.TextAnswers.{text_refused, text_printed}
@@ -64,6 +65,11 @@ length_to_page rs (suc n) =
 pub length-pages : (rs : List Row) → length (pages rs) ≡ 65 * (length rs + page_count (length rs))
 unfolding pages
 length-pages rs = omega (arith, length_to_page rs (page_count (length rs)))
+
+-- the room for a page, from the room for all
+pub page_room : {rs : List Row} {n : ℕ} {p q : List Row} → Chunk rs n p q → {d out : List ℕ} {o : ℕ} → Wrote d 0 (each ended (lines_to rs n)) out o
+    → 65 * (length rs + page_count (length rs)) ≤ length d → o + 65 * (1 + length p) ≤ length out
+page_room {rs} {n} x w h = omega (arith, x.more, x.within, w.next, kept w, length_to_page rs n)
 
 -- the answer and the buffer, where the pages do not fit and where they are written
 module _ (rs : List Row) where

@@ -24,7 +24,7 @@ shown s =
     let t = terms_of s in
     let S = s.sulphur in
     let N = s.nitrogen in
-    take s.name_len s.name
+    take s.name.len s.name.bytes
     ∷ decimal (cl_max_s t) ∷ decimal (cl_min_n t) ∷ decimal (cl_max_n t) ∷ decimal (cl_nut_n t)
     ∷ decimal (region_number (region t S N)) ∷ decimal (acid_exceedance t S N) ∷ decimal (nutrient_exceedance t N)
     ∷ verdict_word (verdict t S N)

@@ -4,67 +4,50 @@ use mathlib.Core.Path.{◌≡◌, refl, ap, ◌∙◌}
 use mathlib.Core.Bool.{Bool, true, false}
 use mathlib.Core.List.{List, [], ◌∷◌, ◌++◌, append_assoc, map}
 use native.Mathlib.Omega.{arith}
-use borrow.Author.Tests.{eq-eqb, ne_eqb, eqb-false, ltb-true, ltb-false}
+use borrow.Author.Tests.{eq-eqb, ne_eqb, ltb-true, ltb-false}
 use lib.Dec.{eqb, ltb}
 use lib.ListN.{length, get_or}
 use Rattle.text.specs.Decimal.{dec, decimal}
-use Rattle.std.specs.Prelude.{flat_map}
+use Rattle.std.specs.Prelude.{flat_map, not}
 use Rattle.text.specs.Line.{spaced}
-use Rattle.text.specs.Words.{cons_to, split, last_or, last_word, free}
+use Rattle.std.specs.List.{onto_first}
+use Rattle.std.proofs.lemmas.List.Sums.{AllPass-from_list_all}
+use Rattle.std.proofs.lemmas.List.Folds.{list_all-append}
+use Rattle.std.proofs.lemmas.List.Splits.{slice_split-cons_yes, slice_split_none, length-slice_split}
+use Rattle.text.specs.Words.{split, last_or, last_word, free}
 use Rattle.text.proofs.DecimalLaws.{dec_small, dec_step}
 
 -- ---- split
 
-split_true : (b x : ℕ) (xs : List ℕ) → eqb x b ≡ true → split b (x ∷ xs) ≡ [] ∷ split b xs
-unfolding split
-split_true b x xs e = rw (e, split)
-
-split_false : (b x : ℕ) (xs : List ℕ) → eqb x b ≡ false → split b (x ∷ xs) ≡ cons_to x (split b xs)
-unfolding split
-split_false b x xs e = rw (e, split)
-
-cons_to-pos : (x : ℕ) (r : List (List ℕ)) → 1 ≤ length (cons_to x r)
-unfolding cons_to
-cons_to-pos x [] = omega arith
-cons_to-pos x (w ∷ ws) = omega arith
-
--- there is always a first part
-split-pos : (b : ℕ) (xs : List ℕ) → 1 ≤ length (split b xs)
-unfolding split
-split-pos b [] = omega arith
-split-pos b (x ∷ xs) = go (eqb x b) refl
-  where
-    go : (t : Bool) → eqb x b ≡ t → 1 ≤ length (split b (x ∷ xs))
-    go true e = rw (split_true b x xs e) (omega arith)
-    go false e = rw (split_false b x xs e) (cons_to-pos x (split b xs))
-
-cons_to-append : (x : ℕ) (r s : List (List ℕ)) → 1 ≤ length r → cons_to x (r ++ s) ≡ cons_to x r ++ s
-unfolding cons_to
-cons_to-append x [] s h = absurd (omega arith)
-cons_to-append x (w ∷ ws) s h = refl
+onto_first-append : (x : ℕ) (r s : List (List ℕ)) → 1 ≤ length r → onto_first x (r ++ s) ≡ onto_first x r ++ s
+onto_first-append x [] s h = absurd (omega arith)
+onto_first-append x (w ∷ ws) s h = refl
 
 -- a text is cut at a b by cutting what is before it and what is after it
 pub split_at : (b : ℕ) (xs ys : List ℕ) → split b (xs ++ b ∷ ys) ≡ split b xs ++ split b ys
 unfolding split
-split_at b [] ys = split_true b b ys (eq-eqb b b refl)
+split_at b [] ys = slice_split-cons_yes (λ x. eqb x b) b ys (eq-eqb b b refl)
 split_at b (x ∷ xs) ys = go (eqb x b) refl (split_at b xs ys)
   where
     go : (t : Bool) → eqb x b ≡ t → split b (xs ++ b ∷ ys) ≡ split b xs ++ split b ys → split b (x ∷ (xs ++ b ∷ ys)) ≡ split b (x ∷ xs) ++ split b ys
-    go true e ih = rw (split_true b x xs e, split_true b x (xs ++ b ∷ ys) e, ih)
-    go false e ih = rw (split_false b x xs e, split_false b x (xs ++ b ∷ ys) e, ih, cons_to-append x (split b xs) (split b ys) (split-pos b xs))
+    go true e ih = rw (e, ih)
+    go false e ih = rw (e, ih, onto_first-append x (split b xs) (split b ys) (omega (arith, length-slice_split (λ x. eqb x b) xs)))
+
+not_true : (t : Bool) → not t ≡ true → t ≡ false
+not_true true e = cc
+not_true false e = refl
 
 pub free_false : (b x : ℕ) (xs : List ℕ) → free b (x ∷ xs) ≡ true → (eqb x b ≡ false) × (free b xs ≡ true)
 unfolding free
 free_false b x xs h = go (eqb x b) refl
   where
     go : (t : Bool) → eqb x b ≡ t → (eqb x b ≡ false) × (free b xs ≡ true)
-    go true e = let z : false ≡ true = rw (e, free) at h in (cc, cc)
-    go false e = (e, rw (e, free) at h)
+    go true e = let z : false ≡ true = rw e at h in (cc, cc)
+    go false e = (e, rw e at h)
 
 pub split-free : (b : ℕ) (xs : List ℕ) → free b xs ≡ true → split b xs ≡ xs ∷ []
-unfolding split cons_to
-split-free b [] h = refl
-split-free b (x ∷ xs) h = split_false b x xs (free_false b x xs h).0 ∙ ap (cons_to x) (split-free b xs (free_false b x xs h).1)
+unfolding split free
+split-free b xs h = slice_split_none (λ x. eqb x b) xs (λ k d l. not_true _ (AllPass-from_list_all (λ x. not (eqb x b)) xs h k d l))
 
 -- texts that are each ended by a b, cut at each b: the texts, and nothing behind the last b
 module _ {A : Type 0} (b : ℕ) (f g : A → List ℕ) (end : (x : A) → g x ≡ f x ++ (b ∷ [])) where
@@ -86,8 +69,8 @@ unfolding free
 free-cons b x xs h e = rw (ne_eqb x b h, free) e
 
 pub free-append : (b : ℕ) (xs ys : List ℕ) → free b xs ≡ true → free b ys ≡ true → free b (xs ++ ys) ≡ true
-free-append b [] ys h k = k
-free-append b (x ∷ xs) ys h k = free-cons b x (xs ++ ys) (eqb-false x b (free_false b x xs h).0) (free-append b xs ys (free_false b x xs h).1 k)
+unfolding free
+free-append b xs ys h k = rw (list_all-append (λ x. not (eqb x b)) xs ys, h, k)
 
 -- a digit is 48 or more, so neither a space nor 0A
 free-dec : (b f n : ℕ) → b < 48 → free b (dec f n) ≡ true

@@ -1,15 +1,10 @@
 -- Lines and words of a text.
-use Rattle.std.specs.Prelude.{ℕ, Bool, true, false, List, [], ◌∷◌, eqb, get_or}
-
--- x in front of the first part
-unfoldable pub cons_to : ℕ → List (List ℕ) → List (List ℕ)
-cons_to x [] = (x ∷ []) ∷ []
-cons_to x (w ∷ ws) = (x ∷ w) ∷ ws
+use Rattle.std.specs.Prelude.{ℕ, Bool, not, List, [], ◌∷◌, eqb, get_or}
+use Rattle.std.specs.List.{slice_split, list_all}
 
 -- a text cut at each byte b: what stands between the bytes b, before the first and after the last
 unfoldable pub split : ℕ → List ℕ → List (List ℕ)
-split b [] = [] ∷ []
-split b (x ∷ xs) = let r = split b xs in elim (eqb x b) [ true ↦ [] ∷ r | false ↦ cons_to x r ]
+split b text = slice_split (λ x. eqb x b) text
 
 unfoldable pub last_or : List ℕ → List (List ℕ) → List ℕ
 last_or d [] = d
@@ -25,5 +20,4 @@ line_at k text = get_or (split 10 text) k []
 
 -- no byte of a text is b
 unfoldable pub free : ℕ → List ℕ → Bool
-free b [] = true
-free b (x ∷ xs) = let r = free b xs in elim (eqb x b) [ true ↦ false | false ↦ r ]
+free b text = list_all (λ x. not (eqb x b)) text

@@ -5,7 +5,7 @@ ghost use Rattle.output.specs.Writing.{WroteIf};
 
 use itoa::write_digits;
 
-// How many decimal digits n has.
+// How many decimal digits n has; std has no ilog10.
 #[tactic(auto, using(crate::proofs::DecimalLaws::widths))]
 pub fn width(n: u64) -> usize
     ensures { (result ≡ length (decimal n)) × (result ≤ 20) }
@@ -19,7 +19,8 @@ pub fn width(n: u64) -> usize
     digits
 }
 
-// Writes n at index at, and returns the index after it; where it does not fit, nothing is written. itoa's Buffer would copy the digits once more.
+// Writes n at index at, and returns the index after it; where it does not fit, nothing is written. The digits stand in place at once, where
+// itoa's Buffer would have them copied.
 #[tactic(auto, using(output::proofs::WritingLaws::wrote_none))]
 pub fn put_decimal(out: &mut [u8], at: usize, n: u64) -> usize
     ensures { WroteIf out.old at (decimal n) out.new result }

@@ -27,7 +27,7 @@ fn listing_len(rows: &[Row]) -> usize
 }
 
 // Writes the lines of the rows.
-#[tactic(auto, using(output::proofs::WritingLaws::nothing, output::proofs::EachLaws::next_fits, output::proofs::EachLaws::next_written))]
+#[tactic(auto, using(output::proofs::WritingLaws::nothing, output::proofs::EachLaws::next_fits))]
 fn put_lines(out: &mut [u8], mut at: usize, rows: &[Row]) -> usize
     requires { at + length (flat_map line rows.now) ≤ length out.old }
     ensures { Wrote out.old at (flat_map line rows.now) out.new result }

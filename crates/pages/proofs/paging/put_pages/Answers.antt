@@ -5,7 +5,7 @@ use Rattle.output.specs.Writing.{each}
 use Rattle.output.proofs.WritingLaws.{nothing, then}
 use Rattle.columns.proofs.PageLineLaws.{length_head, length_row}
 use Rattle.pages.specs.Pages.{pages, page_count, lines_to}
-use Rattle.pages.proofs.WrittenPages.{chunk, rows_more, page_more, length_rows, length_to_page, pages_short, pages_put}
+use Rattle.pages.proofs.WrittenPages.{chunk, rows_more, page_more, length_rows, page_room, pages_short, pages_put}
 use Rattle.pages.proofs.paging.put_pages.Goals as goal
 
 pub returns-then-out-need : goal.returns-then-out-need
@@ -28,10 +28,11 @@ loop-row-preserved c =
     let p = c.loop-page.invariant in
     let s = c.in-Some.ensures.steps in
     let x = chunk rows n p.left s.1.0 (rw p.size at s.1.1) s.1.2 in
-    let h = c.put_header-o.ensures.fits (omega (arith, p.pages.next, length_to_page rows n, length_head, x.more)) in
+    let room = page_room x p.pages (omega arith) in
+    let h = c.put_header-o.ensures.fits (omega (arith, length_head)) in
     let inside : i < length page = omega arith in
     let used = length-take-le i page (omega arith) in
-    let w = c.put_row-o.ensures.fits (omega (arith, p.pages.next, length_to_page rows n, length_head, h.next, c.loop-row.invariant.next, length_rows (take i page), length_row, x.more, x.within)) in
+    let w = c.put_row-o.ensures.fits (omega (arith, h.next, length_head, length_rows (take i page), length_row)) in
     rw (← rows_more) at (then c.loop-row.invariant w)
 
 pub loop-page-preserved : goal.loop-page-preserved
@@ -42,7 +43,8 @@ loop-page-preserved c =
     let p = c.loop-page.invariant in
     let s = c.in-Some.ensures.steps in
     let x = chunk rows n p.left s.1.0 (rw p.size at s.1.1) s.1.2 in
-    let h = c.put_header-o.ensures.fits (omega (arith, p.pages.next, length_to_page rows n, length_head, x.more)) in
+    let room = page_room x p.pages (omega arith) in
+    let h = c.put_header-o.ensures.fits (omega (arith, length_head)) in
     let whole = rw (take_all c.loop-row.row-index page (omega arith)) at c.loop-row.invariant in
     let next : length (c.loop-page.yielded ++ c.in-Some.page ∷ []) ≡ n + 1 = length_push _ _ in
     record {
