@@ -16,7 +16,7 @@ use Rattle.text.specs.declared.Row.{Row}
 use Rattle.text.specs.Decimal.{decimal}
 use Rattle.text.specs.Line.{numbers_of, name_text}
 use Rattle.text.specs.Listing.{head_text}
-use Rattle.text.specs.Words.{cons_to, split, free}
+use Rattle.text.specs.Words.{split, free}
 use Rattle.text.proofs.WordLaws.{free-cons, free-append, free_false, free-decimal}
 use Rattle.text.proofs.MarkLaws.{free_mark}
 use Rattle.columns.specs.PageLine.{left_in, right_in, in_columns, page_line, head_line, line_texts, row_texts, row_line, number_columns, ended}
@@ -60,7 +60,7 @@ length_row r = whole_line _
 
 -- the header, with its end, as the bytes that are written
 pub head_bytes : ended head_line ≡ codes "id          maxS    minN    maxN    nutNre acidEx  nutExverdict \n"
-unfolding ended head_line page_line in_columns left_in right_in head_text split cons_to
+unfolding ended head_line page_line in_columns left_in right_in head_text split
 head_bytes = refl
 
 -- ---- the texts of a line
@@ -117,7 +117,7 @@ free_line name mark h m a b c d e f g =
     (number 8 a)) (number 8 b)) (number 8 c)) (number 8 d)) (number 2 e)) (number 7 f)) (number 7 g)) (free_right 7 mark m)) (free_spaces 1)
 
 pub free_head : free 10 head_line ≡ true
-unfolding head_line page_line in_columns left_in right_in head_text split cons_to free
+unfolding head_line page_line in_columns left_in right_in head_text split free
 free_head = refl
 
 pub free_row : (r : Row) → free 10 (name_text r) ≡ true → free 10 (row_line r) ≡ true

@@ -5,9 +5,8 @@ ghost use Rattle.output.specs.Writing.{WroteIf};
 ghost use Rattle.columns.specs.PageLine.{head_line, number_columns, row_line, ended};
 
 use crate::column::{put_left, put_number, put_right};
-use judgement::Verdict;
 use output::put_bytes;
-use text::{Row, numbers};
+use text::{Row, mark, numbers};
 
 // Writes the header's line, and returns the index after it; where it does not fit, nothing is written.
 #[tactic(auto, using(crate::proofs::PageLineLaws::head_bytes))]
@@ -32,16 +31,6 @@ fn put_numbers(columns: &mut [u8], ns: [u64; 7])
     for (n, width) in ns.iter().zip(&WIDTHS) {
         put_number(&mut columns[at..at + *width], *n);
         at += *width;
-    }
-}
-
-#[tactic(auto, unfolding(judgement::specs::Verdicts::verdict_word))]
-fn mark(v: Verdict) -> &'static [u8]
-    ensures { result.now ≡ verdict_word v }
-{
-    match v {
-        Verdict::Within => b"within",
-        Verdict::Over { .. } => b"over",
     }
 }
 

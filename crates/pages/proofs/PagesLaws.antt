@@ -8,8 +8,7 @@ use native.Mathlib.Omega.{arith}
 use lib.ListN.{length, get_or, length-append, length-map, get_or-append}
 use lib.Seq.{get_or-append_seam}
 use Rattle.site.specs.declared.Site.{Site}
-use Rattle.output.specs.declared.Written.{Written}
-use Rattle.output.specs.Output.{held}
+use Rattle.output.specs.Output.{Written, held}
 use Rattle.text.specs.TextAnswer.{text_answer}
 use Rattle.std.proofs.lemmas.Bool.{cases_lt}
 use Rattle.std.proofs.lemmas.List.{map-id}
@@ -17,7 +16,7 @@ use Rattle.judgement.proofs.AtSites.{word_tells}
 use Rattle.field.specs.Field.{blank_site}
 use Rattle.field.specs.Clean.{AllBytes}
 use Rattle.field.proofs.All.{all_at}
-use Rattle.record.specs.Result.{good}
+use Rattle.std.specs.Prelude.{Ok}
 use Rattle.record.specs.File.{contents}
 use Rattle.record.proofs.SiteFile.{sites_checked, sites_pairs}
 use Rattle.text.specs.declared.Row.{Row}
@@ -27,8 +26,6 @@ use Rattle.text.specs.Marks.{Plain}
 use Rattle.text.proofs.WordLaws.{split-each}
 use Rattle.text.proofs.TextAnswers.{answered}
 use Rattle.site.specs.Ranges.{most_records}
-use Rattle.record.specs.declared.Outcome.TheVariants.{Accepted}
-use Rattle.listing.specs.declared.Walked.{Walked}
 use Rattle.listing.specs.Rows.{row_of, walked_of}
 use Rattle.listing.specs.PrintedDemand3.{TextSays}
 use Rattle.listing.proofs.ListLaws.{FileClauses, filed_sites, found_sites}
@@ -89,7 +86,7 @@ module _ (rs : List Row) (names : Plain rs) where
       ap (λ (t : List (List ℕ)). get_or t i []) split-pages
       ∙ get_or-append (all_lines rs) ([] ∷ []) [] i (omega (arith, length_lines rs))
 
-module _ (f : List ℕ) (bytes : AllBytes f) (ss : List Site) (e : contents f ≡ good ss) where
+module _ (f : List ℕ) (bytes : AllBytes f) (ss : List Site) (e : contents f ≡ Ok ss) where
   rows : List Row
   rows = map row_of ss
 
@@ -136,11 +133,7 @@ pages_stay f x g y df dg = marks_stay (λ (k : ℕ) (t : List ℕ). verdict_colu
 
 -- ---- the clauses of the call
 
--- the walk finds at most 500 rows
-pub few : (f : List ℕ) (w : Walked) → w ≡ walked_of (contents f) → w.outcome ≡ Accepted → w.count ≤ most_records
-few f w is e = let x = found_sites (contents f) is e in omega (arith, x.counted, (sites_checked f x.ss x.holds).0)
-
-module _ (f : List ℕ) (bytes : AllBytes f) (d : List ℕ) (ss : List Site) (h : contents f ≡ good ss) where
+module _ (f : List ℕ) (bytes : AllBytes f) (d : List ℕ) (ss : List Site) (h : contents f ≡ Ok ss) where
   most_is : length (pages_of ss) ≤ most_pages
   most_is = omega (arith, length-pages (map row_of ss), length-map ss row_of, (sites_checked f ss h).0)
 

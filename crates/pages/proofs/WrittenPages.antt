@@ -7,7 +7,7 @@ use native.Mathlib.Numerals.{add-one}
 use lib.ListN.{length, get_or, take, drop, length-append, length-take, length-drop}
 use Rattle.std.proofs.lemmas.List.{map-append, take_at, drop_at, take_min, drop_min, drop-drop, take_more}
 use Rattle.site.specs.declared.Rule.TheVariants.{BufferShort}
-use Rattle.output.specs.declared.Written.TheVariants.{Count, Refused}
+use Rattle.std.specs.Prelude.{Ok, Err}
 use Rattle.output.specs.Output.{held}
 use Rattle.output.specs.Writing.{Wrote, each}
 use Rattle.output.proofs.EachLaws.{each_append}
@@ -73,8 +73,8 @@ page_room {rs} {n} x w h = omega (arith, x.more, x.within, w.next, kept w, lengt
 
 -- the answer and the buffer, where the pages do not fit and where they are written
 module _ (rs : List Row) where
-  pub pages_short : {d : List ℕ} → length d < 65 * (length rs + page_count (length rs)) → (Refused BufferShort 0 ≡ text_answer (pages rs) d) × (d ≡ held (pages rs) d)
+  pub pages_short : {d : List ℕ} → length d < 65 * (length rs + page_count (length rs)) → (Err (record { rule = BufferShort; at = 0 }) ≡ text_answer (pages rs) d) × (d ≡ held (pages rs) d)
   pages_short {d} l = let a = text_refused {most = length (pages rs)} (pages rs) d (omega (arith, length-pages rs)) (omega arith) in (a.answer, a.buffer)
 
-  pub pages_put : {d e : List ℕ} {r : ℕ} → Wrote d 0 (pages rs) e r → 65 * (length rs + page_count (length rs)) ≤ length d → (Count r ≡ text_answer (pages rs) d) × (e ≡ held (pages rs) d)
+  pub pages_put : {d e : List ℕ} {r : ℕ} → Wrote d 0 (pages rs) e r → 65 * (length rs + page_count (length rs)) ≤ length d → (Ok r ≡ text_answer (pages rs) d) × (e ≡ held (pages rs) d)
   pages_put w l = let a = text_printed {most = length (pages rs)} (pages rs) w (omega (arith, length-pages rs)) (omega arith) in (a.answer, a.buffer)

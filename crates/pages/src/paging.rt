@@ -11,20 +11,17 @@ ghost use Rattle.pages.specs.PagesDemand3.{PagesSay};
 
 use columns::{put_header, put_row};
 use listing::walk_file;
-use output::Written;
-use record::Outcome;
-use site::Rule;
+use site::{Refusal, Rule};
 use text::Row;
 
 // Writes the pages of rows: under the header of each stand 59, on the last what is left. A buffer that is too short for all of them stays as it is.
-fn put_pages(out: &mut [u8], rows: &[Row]) -> Written
+fn put_pages(out: &mut [u8], rows: &[Row]) -> Result<usize, Refusal>
     requires { length rows.now ≤ most_records }
     ensures { (result ≡ text_answer (pages rows.now) out.old) × (out.new ≡ held (pages rows.now) out.old) }
 {
     let need = 65 * (rows.len() + rows.len().div_ceil(59));
     if out.len() < need {
-        let rule = Rule::BufferShort;
-        return Written::Refused { rule, at: 0 };
+        return Err(Rule::BufferShort.into());
     }
     let mut o = 0;
     for page in rows.chunks(59) {
@@ -33,22 +30,17 @@ fn put_pages(out: &mut [u8], rows: &[Row]) -> Written
             o = put_row(out, o, *row);
         }
     }
-    Written::Count(o)
+    Ok(o)
 }
 
 // Nothing is written before the last record is checked and all pages are known to fit.
-#[tactic(auto, using(crate::proofs::PagesLaws::few))]
-pub fn list_pages(file: &[u8], out: &mut [u8]) -> Written
+pub fn list_pages(file: &[u8], out: &mut [u8]) -> Result<usize, Refusal>
     ensures answer { result ≡ file_answer pages_of (contents file.now) out.old }
     ensures buffer { out.new ≡ file_held pages_of (contents file.now) out.old }
     ensures numbers { written_numbers result ≡ file_numbers pages_of (contents file.now) out.old }
     ensures enough { FileRoom most_pages pages_of (contents file.now) out.old result }
     ensures demand3 { WrittenSays PagesSay file.now out.new result }
 {
-    let w = walk_file(file);
-    let o = w.outcome;
-    match o {
-        Outcome::Refused { rule, at } => Written::Refused { rule, at },
-        Outcome::Accepted => put_pages(out, &w.rows[..w.count]),
-    }
+    let rows = walk_file(file)?;
+    put_pages(out, &rows)
 }

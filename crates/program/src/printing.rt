@@ -9,7 +9,6 @@ ghost use Rattle.output.specs.Output.{held};
 
 use crate::ReadState;
 use listing::report;
-use output::Written;
 
 // The report of a file, with the number of bytes to print: none where the buffer is too short.
 #[tactic(auto, unfolding(site::specs::ByCheck::answer_if, output::specs::Output::held_after, output::specs::Output::output_count))]
@@ -19,11 +18,7 @@ fn shown(file: &[u8], out: &mut [u8]) -> usize
     ensures buffer { out.new ≡ held (report_of file.now) out.old }
     ensures enough { most_text ≤ length out.old → take result out.new ≡ report_of file.now }
 {
-    let r = report(file, out);
-    match r {
-        Written::Count(k) => k,
-        Written::Refused { rule: _, at: _ } => 0,
-    }
+    report(file, out).unwrap_or(0)
 }
 
 // The report of what was read, where the reading has ended, and nothing otherwise; gives how many bytes to print. The file's buffer

@@ -10,6 +10,7 @@ mod refusal;
 pub use columns::numbers;
 pub use decimal::put_decimal;
 use judgement::Verdict;
+pub use line::mark;
 pub use listing::put_listing;
 use loads::Loads;
 pub use refusal::put_refusal;

@@ -10,8 +10,9 @@ use crate::columns::{numbers, numbers_len, put_numbers};
 use judgement::Verdict;
 use output::put_bytes;
 
+// The word of a verdict.
 #[tactic(auto, unfolding(judgement::specs::Verdicts::verdict_word))]
-fn mark(verdict: Verdict) -> &'static [u8]
+pub fn mark(verdict: Verdict) -> &'static [u8]
     ensures { (result.now ≡ verdict_word verdict) × (length result.now ≤ 6) }
 {
     match verdict {

@@ -41,5 +41,5 @@ returns c =
     let all = whole (next z c.copy_from_slice.new.self 2 65 (omega (arith, ap length end)) (omega arith) (omega arith)) in
     let name = rw (w, c.as_slice.ensures.bytes) at c.put_left.ensures in
     let ns = rw c.numbers.ensures at c.put_numbers.ensures in
-    let mark = rw (ys, c.mark.ensures) at c.put_right.ensures in
+    let mark = rw (ys, c.mark.ensures.0) at c.put_right.ensures in
     all ∙ rw (row_bytes row, name, ns, mark, end) (simp append_assoc)

@@ -9,7 +9,7 @@ use Rattle.pages.proofs.WrittenPages.{chunk, rows_more, page_more, length_rows, 
 use Rattle.pages.proofs.paging.put_pages.Goals as goal
 
 pub returns-then-out-need : goal.returns-then-out-need
-returns-then-out-need c = pages_short c.args.rows.now (omega arith)
+returns-then-out-need c = rw c.into.ensures (pages_short c.args.rows.now (omega arith))
 
 pub loop-page-init : goal.loop-page-init
 unfolding lines_to each
