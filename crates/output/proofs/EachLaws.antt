@@ -8,26 +8,23 @@ use Rattle.std.proofs.lemmas.List.{take_more}
 use Rattle.std.proofs.lemmas.List.Folds.{length-flat_map-take}
 use Rattle.std.proofs.lemmas.Grind.{flat_map-append}
 use Rattle.std.specs.Prelude.{flat_map}
-use Rattle.output.specs.Writing.{Wrote, each}
+use Rattle.output.specs.Writing.{Wrote}
 use Rattle.output.proofs.WritingLaws.{then, room}
 
 module _ {A B : Type 0} (f : A → List B) where
-  pub each_append : (xs ys : List A) → each f (xs ++ ys) ≡ each f xs ++ each f ys
-  unfolding each
+  pub each_append : (xs ys : List A) → flat_map f (xs ++ ys) ≡ flat_map f xs ++ flat_map f ys
   each_append xs ys = flat_map-append f xs ys
 
   -- a turn of a loop over xs; d is what stands past its end
-  pub each_more : (xs : List A) (i : ℕ) (d : A) → i < length xs → each f (take (i + 1) xs) ≡ each f (take i xs) ++ f (get_or xs i d)
-  unfolding each
+  pub each_more : (xs : List A) (i : ℕ) (d : A) → i < length xs → flat_map f (take (i + 1) xs) ≡ flat_map f (take i xs) ++ f (get_or xs i d)
   each_more xs i d h = rw (take_more xs i d h, flat_map-append, append-nil)
 
-  pub length_more : (xs : List A) (i : ℕ) (d : A) → i < length xs → length (each f (take (i + 1) xs)) ≡ length (each f (take i xs)) + length (f (get_or xs i d))
-  length_more xs i d h = ap length (each_more xs i d h) ∙ length-append (each f (take i xs)) (f (get_or xs i d))
+  pub length_more : (xs : List A) (i : ℕ) (d : A) → i < length xs → length (flat_map f (take (i + 1) xs)) ≡ length (flat_map f (take i xs)) + length (f (get_or xs i d))
+  length_more xs i d h = ap length (each_more xs i d h) ∙ length-append (flat_map f (take i xs)) (f (get_or xs i d))
 
   -- the room for one more, from the room for all
-  pub each_fits : (at : ℕ) {m : ℕ} (xs : List A) (i : ℕ) (d : A) → i < length xs → at + length (each f xs) ≤ m
-      → at + length (each f (take i xs) ++ f (get_or xs i d)) ≤ m
-  unfolding each
+  pub each_fits : (at : ℕ) {m : ℕ} (xs : List A) (i : ℕ) (d : A) → i < length xs → at + length (flat_map f xs) ≤ m
+      → at + length (flat_map f (take i xs) ++ f (get_or xs i d)) ≤ m
   each_fits at xs i d h r = simp length-append (omega (arith, length-flat_map-take f xs i d h))
 
 -- ---- a turn of a loop that has written the texts of the first i elements; z is what stands past the end of xs

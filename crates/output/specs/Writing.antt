@@ -1,5 +1,5 @@
 -- What stands in a buffer after a run of stores.
-use Rattle.std.specs.Prelude.{ℕ, suc, ◌+◌, ◌≤◌, ◌<◌, ◌≡◌, List, [], ◌∷◌, length, set, flat_map}
+use Rattle.std.specs.Prelude.{ℕ, suc, ◌+◌, ◌≤◌, ◌<◌, ◌≡◌, List, [], ◌∷◌, length, set}
 
 -- d with xs stored from index at; a store past the end changes nothing
 unfoldable pub write : {A : Type 0} → List A → ℕ → List A → List A
@@ -15,7 +15,3 @@ pub record Wrote {A : Type 0} (d : List A) (at : ℕ) (xs : List A) (e : List A)
 pub record WroteIf {A : Type 0} (d : List A) (at : ℕ) (xs : List A) (e : List A) (r : ℕ) : Type 0 where
   pub fits : at + length xs ≤ length d → Wrote d at xs e r
   pub short : length d < at + length xs → (e ≡ d) × (r ≡ at)
-
--- the texts of the elements, one after another
-unfoldable pub each : {A B : Type 0} → (A → List B) → List A → List B
-each f xs = flat_map f xs

@@ -25,10 +25,9 @@ use Rattle.text.specs.Words.{split, line_at, free}
 use Rattle.text.specs.Marks.{Plain}
 use Rattle.text.proofs.WordLaws.{split-each}
 use Rattle.text.proofs.TextAnswers.{answered}
-use Rattle.site.specs.Ranges.{most_records}
-use Rattle.listing.specs.Rows.{row_of, walked_of}
+use Rattle.listing.specs.Rows.{row_of}
 use Rattle.listing.specs.PrintedDemand3.{TextSays}
-use Rattle.listing.proofs.ListLaws.{FileClauses, filed_sites, found_sites}
+use Rattle.listing.proofs.ListLaws.{FileClauses, filed_sites}
 use Rattle.listing.proofs.Demand3Laws.{passed, row_at, plain}
 use Rattle.listing.proofs.ReportLaws.{marks_stay}
 use Rattle.columns.specs.PageLine.{page_line, head_line, row_line, ended}

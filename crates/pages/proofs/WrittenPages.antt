@@ -7,9 +7,9 @@ use native.Mathlib.Numerals.{add-one}
 use lib.ListN.{length, get_or, take, drop, length-append, length-take, length-drop}
 use Rattle.std.proofs.lemmas.List.{map-append, take_at, drop_at, take_min, drop_min, drop-drop, take_more}
 use Rattle.site.specs.declared.Rule.TheVariants.{BufferShort}
-use Rattle.std.specs.Prelude.{Ok, Err}
+use Rattle.std.specs.Prelude.{Ok, Err, flat_map}
 use Rattle.output.specs.Output.{held}
-use Rattle.output.specs.Writing.{Wrote, each}
+use Rattle.output.specs.Writing.{Wrote}
 use Rattle.output.proofs.EachLaws.{each_append}
 use Rattle.output.proofs.WritingLaws.{kept}
 use Rattle.text.specs.declared.Row.{Row}
@@ -39,22 +39,20 @@ chunk rs n {xs} {p} {q} d e l h =
     }
 
 -- one row more on a page
-pub rows_more : (rs : List Row) (i : ℕ) (d : Row) → i < length rs → each ended (map row_line (take (i + 1) rs)) ≡ each ended (map row_line (take i rs)) ++ ended (row_line (get_or rs i d))
-unfolding each
+pub rows_more : (rs : List Row) (i : ℕ) (d : Row) → i < length rs → flat_map ended (map row_line (take (i + 1) rs)) ≡ flat_map ended (map row_line (take i rs)) ++ ended (row_line (get_or rs i d))
 rows_more rs i d h = rw (take_more rs i d h, map-append, each_append, append-nil)
 
 -- one page more
-pub page_more : (rs : List Row) (n : ℕ) → each ended (lines_to rs (n + 1)) ≡ each ended (lines_to rs n) ++ ended head_line ++ each ended (map row_line (take 59 (drop (59 * n) rs)))
-unfolding lines_to lines_on each
+pub page_more : (rs : List Row) (n : ℕ) → flat_map ended (lines_to rs (n + 1)) ≡ flat_map ended (lines_to rs n) ++ ended head_line ++ flat_map ended (map row_line (take 59 (drop (59 * n) rs)))
+unfolding lines_to lines_on
 page_more rs n = rw (add-one, each_append, append_assoc)
 
-pub length_rows : (rs : List Row) → length (each ended (map row_line rs)) ≡ 65 * length rs
-unfolding each
+pub length_rows : (rs : List Row) → length (flat_map ended (map row_line rs)) ≡ 65 * length rs
 length_rows [] = omega arith
-length_rows (r ∷ rs) = length-append (ended (row_line r)) (each ended (map row_line rs)) ∙ omega (arith, length_row r, length_rows rs)
+length_rows (r ∷ rs) = length-append (ended (row_line r)) (flat_map ended (map row_line rs)) ∙ omega (arith, length_row r, length_rows rs)
 
-pub length_to_page : (rs : List Row) (n : ℕ) → length (each ended (lines_to rs n)) ≡ 65 * (n + min (59 * n) (length rs))
-unfolding lines_to lines_on each
+pub length_to_page : (rs : List Row) (n : ℕ) → length (flat_map ended (lines_to rs n)) ≡ 65 * (n + min (59 * n) (length rs))
+unfolding lines_to lines_on
 length_to_page rs zero = omega arith
 length_to_page rs (suc n) =
     let on : length (take 59 (drop (59 * n) rs)) ≡ min 59 (length rs - 59 * n) = simp (length-take, length-drop) in
@@ -67,7 +65,7 @@ unfolding pages
 length-pages rs = omega (arith, length_to_page rs (page_count (length rs)))
 
 -- the room for a page, from the room for all
-pub page_room : {rs : List Row} {n : ℕ} {p q : List Row} → Chunk rs n p q → {d out : List ℕ} {o : ℕ} → Wrote d 0 (each ended (lines_to rs n)) out o
+pub page_room : {rs : List Row} {n : ℕ} {p q : List Row} → Chunk rs n p q → {d out : List ℕ} {o : ℕ} → Wrote d 0 (flat_map ended (lines_to rs n)) out o
     → 65 * (length rs + page_count (length rs)) ≤ length d → o + 65 * (1 + length p) ≤ length out
 page_room {rs} {n} x w h = omega (arith, x.more, x.within, w.next, kept w, length_to_page rs n)
 

@@ -1,9 +1,8 @@
 -- The listing as pages of 60 lines: under the header of each stand 59 sites, on the last what is left.
-use Rattle.std.specs.Prelude.{ℕ, zero, suc, ◌+◌, ◌*◌, List, [], ◌∷◌, ◌++◌, map, length, take, drop}
+use Rattle.std.specs.Prelude.{ℕ, zero, suc, ◌+◌, ◌*◌, List, [], ◌∷◌, ◌++◌, map, length, take, drop, flat_map}
 use Rattle.std.specs.Int.{div_ceil}
 use Rattle.site.specs.Ranges.{most_records}
 use Rattle.site.specs.declared.Site.{Site}
-use Rattle.output.specs.Writing.{each}
 use Rattle.text.specs.declared.Row.{Row}
 use Rattle.listing.specs.Rows.{row_of}
 use Rattle.columns.specs.PageLine.{head_line, row_line, ended}
@@ -22,7 +21,7 @@ abbrev pub page_count : ℕ → ℕ
 page_count n = div_ceil n 59
 
 unfoldable pub pages : List Row → List ℕ
-pages rs = each ended (lines_to rs (page_count (length rs)))
+pages rs = flat_map ended (lines_to rs (page_count (length rs)))
 
 -- the pages of the sites of a file
 abbrev pub pages_of : List Site → List ℕ

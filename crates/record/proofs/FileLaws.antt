@@ -9,8 +9,7 @@ use borrow.Author.Tests.{le-leb, lt-leb, leb-true, leb-false, eq-eqb, ne_eqb}
 use lib.Dec.{leb}
 use lib.ListN.{length, take, drop, length-take, length-drop, length-append, drop_of_length-le, take-append-drop}
 use lib.Seq.{drop-drop, drop_at}
-use Rattle.std.specs.Prelude.{Result, Ok, Err}
-use Rattle.output.specs.Writing.{each}
+use Rattle.std.specs.Prelude.{Result, Ok, Err, flat_map}
 use Rattle.site.specs.Choice.{pick}
 use Rattle.site.proofs.Tests.{le_or_lt}
 use Rattle.site.specs.declared.Refusal.{Refusal}
@@ -155,10 +154,9 @@ module _ {A : Type 0} (read : List ℕ → ℕ → Result (A × ℕ) Refusal) (w
 
 module _ {A : Type 0} (read : ℕ → Result (A × ℕ) Refusal) (encode : A → List ℕ) (f : List ℕ)
     (bytes : (at : ℕ) (x : A × ℕ) → read at ≡ Ok x → (at ≤ x.1) × (encode x.0 ≡ take (x.1 - at) (drop at f))) where
-  pub contents_written : (most : ℕ) (xs : List A) → contents_by most read (length f) ≡ Ok xs → f ≡ each encode xs
-  unfolding each
+  pub contents_written : (most : ℕ) (xs : List A) → contents_by most read (length f) ≡ Ok xs → f ≡ flat_map encode xs
   contents_written most xs e =
-      file_by read (length f) (λ n at xs. drop at f ≡ each encode xs)
+      file_by read (length f) (λ n at xs. drop at f ≡ flat_map encode xs)
       (λ n at h. drop_of_length-le f {i = at} h)
       (λ n at x xs h r p.
       let b = bytes at x r in
@@ -172,21 +170,20 @@ module _ {A : Type 0} (read : ℕ → Result (A × ℕ) Refusal) (encode : A →
 module _ {A : Type 0} (read : List ℕ → ℕ → Result (A × ℕ) Refusal) (encode : A → List ℕ) (clean : A → A) (Fit : A → Type 0)
     (some : (x : A) → 1 ≤ length (encode x))
     (reads : (x : A) → Fit x → (f : List ℕ) (at : ℕ) (rest : List ℕ) → drop at f ≡ encode x ++ rest → read f at ≡ Ok (clean x, at + length (encode x))) where
-  file_read : (f : List ℕ) (xs : List A) → All Fit xs → (n at : ℕ) → length xs ≤ n → drop at f ≡ each encode xs
+  file_read : (f : List ℕ) (xs : List A) → All Fit xs → (n at : ℕ) → length xs ≤ n → drop at f ≡ flat_map encode xs
       → walk_file (read f) (length f) n at ≡ Ok (map clean xs)
-  unfolding each onto first
+  unfolding onto first
   file_read f [] none n at l e = file_end (read f) (length f) n at (omega (arith, length-drop at f, ap length e))
   file_read f (x ∷ xs) (p ▸ ps) zero at l e = absurd (omega arith)
   file_read f (x ∷ xs) (p ▸ ps) (suc n) at l e =
-      let rest = each encode xs in
+      let rest = flat_map encode xs in
       let m : length (drop at f) ≡ length (encode x) + length rest = ap length e ∙ length-append (encode x) rest in
       let d : drop (at + length (encode x)) f ≡ rest = sym (drop-drop (length (encode x)) at f) ∙ rw e (drop_at (encode x) rest (length (encode x)) refl) in
       rw (file_step (read f) (length f) n at (omega (arith, length-drop at f, some x)), reads x p f at rest e, file_read f xs ps n (at + length (encode x)) (omega arith) d)
 
   pub contents_read : (most : ℕ) (xs : List A) → All Fit xs → 1 ≤ length xs → length xs ≤ most
-      → contents_by most (read (each encode xs)) (length (each encode xs)) ≡ Ok (map clean xs)
-  unfolding each
+      → contents_by most (read (flat_map encode xs)) (length (flat_map encode xs)) ≡ Ok (map clean xs)
   contents_read most [] ps h l = absurd (omega arith)
   contents_read most (x ∷ xs) ps h l =
-      let f = encode x ++ each encode xs in
+      let f = encode x ++ flat_map encode xs in
       contents_some (read f) (length f) most (simp length-append (omega (arith, some x))) ∙ file_read f (x ∷ xs) ps most 0 l refl

@@ -5,8 +5,7 @@ use mathlib.Core.Logic.{◌⊎◌}
 use mathlib.Core.List.{List, map}
 use native.Mathlib.Omega.{arith}
 use lib.ListN.{length, take, drop}
-use Rattle.std.specs.Prelude.{Ok, Err}
-use Rattle.output.specs.Writing.{each}
+use Rattle.std.specs.Prelude.{Ok, Err, flat_map}
 use Rattle.site.specs.Ranges.{most_records}
 use Rattle.site.specs.declared.Site.{Site}
 use Rattle.site.specs.declared.Refusal.{Refusal}
@@ -78,13 +77,13 @@ module _ (f : List ℕ) where
   sites_more m h = contents_more site_at most_record site_take (λ g at x r. site_near g at r) most_records f m (omega arith)
 
   -- a file that passes is the records of its sites, one after another
-  pub sites_written : AllBytes f → (ss : List Site) → contents f ≡ Ok ss → f ≡ each encode ss
+  pub sites_written : AllBytes f → (ss : List Site) → contents f ≡ Ok ss → f ≡ flat_map encode ss
   unfolding contents
   sites_written b ss e = contents_written (site_at f) encode f (λ at x r. (omega (arith, site_after f at r), site_bytes f at r b)) most_records ss e
 
 -- 1 to 500 sites that pass, encoded one after another, are read back, with zeros past their names and entries
 pub sites_read : (ss : List Site) → All (λ s. Sized s × (site_rule s ≡ Ok tt)) ss → 1 ≤ length ss → length ss ≤ most_records
-    → contents (each encode ss) ≡ Ok (map clean ss)
+    → contents (flat_map encode ss) ≡ Ok (map clean ss)
 unfolding contents site_at
 sites_read ss ok h l =
     contents_read site_at encode clean (λ s. Sized s × (site_rule s ≡ Ok tt)) (λ s. omega (arith, encode_length site_kind s))

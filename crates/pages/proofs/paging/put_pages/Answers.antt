@@ -1,7 +1,6 @@
 -- The pages of the rows, a page a turn.
 use Rattle.std.proofs.Common.{◌≡◌, ◌+◌, ◌*◌, ◌<◌, [], ◌∷◌, ◌++◌, length, take, take_all, ap, ◌∙◌, length-take-le, length-drop, arith}
 use Rattle.std.proofs.lemmas.List.{length_push}
-use Rattle.output.specs.Writing.{each}
 use Rattle.output.proofs.WritingLaws.{nothing, then}
 use Rattle.columns.proofs.PageLineLaws.{length_head, length_row}
 use Rattle.pages.specs.Pages.{pages, page_count, lines_to}
@@ -12,11 +11,10 @@ pub returns-then-out-need : goal.returns-then-out-need
 returns-then-out-need c = rw c.into.ensures (pages_short c.args.rows.now (omega arith))
 
 pub loop-page-init : goal.loop-page-init
-unfolding lines_to each
+unfolding lines_to
 loop-page-init c = record { size = cc; left = cc; needed = omega arith; pages = nothing _ 0 }
 
 pub loop-row-init : goal.loop-row-init
-unfolding each
 loop-row-init c = nothing _ _
 
 pub loop-row-preserved : goal.loop-row-preserved
