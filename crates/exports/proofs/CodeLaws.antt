@@ -3,12 +3,12 @@ use Prim.Native.Nat.{ℕ, ◌≤◌, ◌<◌}
 use mathlib.Core.Path.{◌≡◌, ◌∙◌}
 use native.Mathlib.Omega.{arith}
 use native.Mathlib.Nat.{mod-eq_of_lt}
-use Rattle.site.specs.Refusal.{rule_number, Checked}
+use Rattle.std.specs.Prelude.{Ok, Err}
+use Rattle.site.specs.Refusal.{Checked, rule_number}
+use Rattle.site.specs.declared.Refusal.{Refusal}
 use Rattle.site.specs.declared.Rule.{Rule}
 use Rattle.site.specs.declared.Rule.TheVariants.{NoBytes, OuterCut, OuterTag, TooMany, InnerCut, InnerTag, BadLength, OutOfRange, NotRising, SharesNotWhole, BufferShort, BadConcentration, NoReading, PairTooLarge}
-use Rattle.output.specs.declared.Written.{Written}
-use Rattle.output.specs.declared.Written.TheVariants.{Count, Refused}
-use Rattle.output.specs.Output.{write_answer}
+use Rattle.output.specs.Output.{Written, write_answer}
 use Rattle.output.proofs.OutputLaws.{count_is, refused_at_0}
 use Rattle.exports.specs.Codes.{code_base, written_code, Decodes}
 
@@ -30,19 +30,19 @@ number_range NoReading = (omega arith, omega arith)
 number_range PairTooLarge = (omega arith, omega arith)
 
 -- a number below 2³² is a count
-pub count_below : (l : Written) {r : ℕ} → r ≡ written_code l → r < code_base → l ≡ Count r
+pub count_below : (l : Written) {r : ℕ} → r ≡ written_code l → r < code_base → l ≡ Ok r
 unfolding written_code
-count_below (Count n) e h = rw e
-count_below (Refused rule at) e h = absurd (omega (arith, (number_range rule).0))
+count_below (Ok n) e h = rw e
+count_below (Err k) e h = absurd (omega (arith, (number_range k.rule).0))
 
-pub decodes : (l : Written) {r : ℕ} → r ≡ written_code l → ((n : ℕ) → l ≡ Count n → n < code_base) → ((rule : Rule) (at : ℕ) → l ≡ Refused rule at → at < code_base) → Decodes l r
+pub decodes : (l : Written) {r : ℕ} → r ≡ written_code l → ((n : ℕ) → l ≡ Ok n → n < code_base) → ((k : Refusal) → l ≡ Err k → k.at < code_base) → Decodes l r
 unfolding written_code
 decodes l e small near = record {
   below = count_below l e;
   count = λ n q. (rw q at e, rw (rw q at e) (small n q));
-  refusal = λ rule at q. (rw q at e ∙ rw (mod-eq_of_lt (near rule at q)), near rule at q);
+  refusal = λ k q. (rw q at e ∙ rw (mod-eq_of_lt (near k q)), near k q);
 }
 
 -- the answer by what a check says
 pub by_check_decodes : (c : Checked) (n : ℕ) → n < code_base → {r : ℕ} → r ≡ written_code (write_answer c n) → Decodes (write_answer c n) r
-by_check_decodes c n h e = decodes (write_answer c n) e (λ k q. omega (arith, count_is c n q)) (λ rule at q. omega (arith, refused_at_0 c n q))
+by_check_decodes c n h e = decodes (write_answer c n) e (λ k q. omega (arith, count_is c n q)) (λ k q. omega (arith, refused_at_0 c n q))

@@ -4,10 +4,10 @@ use mathlib.Core.Path.{◌≡◌, sym, ap, ◌∙◌}
 use mathlib.Core.List.{List}
 use native.Mathlib.Omega.{arith}
 use lib.ListN.{take}
-use Rattle.site.specs.declared.Rule.{Rule}
 use Rattle.site.specs.declared.Site.{Site}
-use Rattle.output.specs.declared.Written.{Written}
-use Rattle.output.specs.declared.Written.TheVariants.{Count, Refused}
+use Rattle.std.specs.Prelude.{Ok, Err}
+use Rattle.site.specs.declared.Refusal.{Refusal}
+use Rattle.output.specs.Output.{Written}
 use Rattle.text.specs.TextAnswer.{text_answer, RoomEnough}
 use Rattle.output.proofs.OutputLaws.{count_is, refused_at_0}
 use Rattle.record.specs.File.{contents}
@@ -24,7 +24,7 @@ module _ (Say : List Site → List ℕ → Type 0) (f : List ℕ) (answer l : Wr
 
   -- what each call promises beside the answer and the buffer
   pub decoded :
-      ((n : ℕ) → l ≡ Count n → n < code_base) → ((rule : Rule) (at : ℕ) → answer ≡ Refused rule at → at < code_base)
+      ((n : ℕ) → l ≡ Ok n → n < code_base) → ((k : Refusal) → answer ≡ Err k → k.at < code_base)
       → Decodes answer r × (r < code_base → TextSays Say f (take r e))
   decoded small near = (decodes answer (code ∙ ap written_code is) (λ n q. small n (is ∙ q)) near, below)
 
@@ -36,11 +36,11 @@ pub file_decoded :
 file_decoded most text Say f d l e r small is code says room =
     decoded Say f (file_answer text (contents f) d) l e r is code says
     (λ n q. omega (arith, file_count most text Say f d (sym is ∙ q) (rw q at room)))
-    (λ rule at q. omega (arith, file_fault_near most text Say f d q))
+    (λ k q. omega (arith, file_fault_near most text Say f d q))
 
 -- the report
 pub report_decoded :
     (f d : List ℕ) (l : Written) (e : List ℕ) (r : ℕ) → l ≡ text_answer (report_of f) d → r ≡ written_code l → WrittenDemand3 f e l → RoomEnough (report_of f) d l
     → Decodes (text_answer (report_of f) d) r × (r < code_base → Demand3 f (take r e))
 report_decoded f d l e r is code says most =
-    decoded LinesSay f (text_answer (report_of f) d) l e r is code says (λ n q. omega (arith, count_is _ _ (sym is ∙ q), most.bounded)) (λ rule at q. omega (arith, refused_at_0 _ _ q))
+    decoded LinesSay f (text_answer (report_of f) d) l e r is code says (λ n q. omega (arith, count_is _ _ (sym is ∙ q), most.bounded)) (λ k q. omega (arith, refused_at_0 _ _ q))

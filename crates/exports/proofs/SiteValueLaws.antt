@@ -1,76 +1,115 @@
--- The check of a site value's bytes, and what the calls promise, by the way that they end.
-use Prim.Native.Nat.{ℕ, ◌≤◌, ◌<◌}
-use mathlib.Core.Path.{◌≡◌, refl}
-use mathlib.Core.List.{List, ◌++◌}
+-- The check of a site value's bytes, and what the calls promise.
+use Prim.Native.Nat.{ℕ, ◌<◌}
+use mathlib.Core.Path.{◌≡◌, refl, sym, ap, ◌∙◌}
+use mathlib.Core.List.{List, [], ◌∷◌, ◌++◌}
 use native.Mathlib.Omega.{arith}
 use lib.ListN.{length, drop, get_or}
-use borrow.Author.Tests.{eq-eqb, ne_eqb}
+use Rattle.std.specs.Prelude.{Result, Ok, Err}
 use Rattle.site.specs.Refusal.{and_then, Checked}
 use Rattle.site.specs.Check.{site_rule}
+use Rattle.site.specs.ByCheck.{answer_if}
+use Rattle.site.specs.declared.Refusal.{Refusal}
 use Rattle.site.specs.declared.Rule.{Rule}
-use Rattle.site.specs.declared.Rule.TheVariants.{BadLength, BufferShort}
-use Rattle.std.specs.Prelude.{Ok, Err}
 use Rattle.site.specs.declared.Site.{Site}
 use Rattle.site.proofs.Passing.{both_passed}
 use Rattle.loads.specs.SiteTerms.{terms_of}
-use Rattle.loads.specs.CriticalLoads.{load_numbers}
-use Rattle.loads.specs.Search.{level_numbers, FewAt}
+use Rattle.loads.specs.declared.Loads.{Loads}
+use Rattle.loads.specs.declared.Searched.{Searched}
+use Rattle.loads.specs.CriticalLoads.{loads_of, load_numbers}
+use Rattle.loads.specs.Hydrogen.{greatest_level}
+use Rattle.loads.specs.Search.{searched_of, searched_at, levels_compared, level_numbers, FewAt}
 use Rattle.level.proofs.SiteLevelLaws.{few_at}
+use Rattle.judgement.specs.declared.Judged.{Judged}
 use Rattle.judgement.specs.declared.Verdict.{Verdict}
 use Rattle.judgement.specs.declared.Verdict.TheVariants.{Within, Over}
 use Rattle.judgement.specs.Verdicts.{verdict, verdict_numbers}
+use Rattle.judgement.specs.Answers.{judged_of}
 use Rattle.judgement.specs.Balance.{MarkSays}
 use Rattle.judgement.proofs.Demand3.{verdict_tells}
 use Rattle.judgement.proofs.AtSites.{site_bounds}
-use Rattle.site.specs.ByCheck.{answer_if}
-use Rattle.output.specs.declared.Written.TheVariants.{Count, Refused}
-use Rattle.output.specs.Output.{write_answer, output_rule, held_after}
-use Rattle.output.specs.Writing.{Wrote}
-use Rattle.output.proofs.WritingLaws.{in_front}
-use Rattle.output.proofs.OutputLaws.{output_broken, output_short, output_whole, output_passed}
+use Rattle.output.specs.Output.{Written, write_answer, output_rule, held_after}
+use Rattle.output.proofs.OutputLaws.{output_whole, output_passed}
+use Rattle.record.specs.Result.{unless}
 use Rattle.exports.specs.Codes.{code_base, written_code, Decodes}
+use Rattle.exports.specs.Numbers.{numbers_written, numbers_held}
+use Rattle.exports.specs.Layout.{site_in, value_length, value_check, value_answer, site_load_numbers, mark_number, verdict_marked, judged_numbers, judgement_numbers}
 use Rattle.exports.proofs.CodeLaws.{count_below, by_check_decodes}
-use Rattle.exports.specs.Layout.{site_in, value_check, value_answer, site_load_numbers, mark_number, verdict_marked, judgement_numbers}
+
+-- ---- the site in the bytes
+
+-- what a check of the length says
+module _ (c : Checked) (s : Site) where
+  by_err : {r : Rule} → and_then c (Ok s) ≡ Err r → (k : Checked) → and_then c k ≡ Err r
+  unfolding and_then
+  by_err = go c
+    where
+      go : (c : Checked) {r : Rule} → and_then c (Ok s) ≡ Err r → (k : Checked) → and_then c k ≡ Err r
+      go (Ok tt) e k = cc
+      go (Err j) e k = cc
+
+  by_ok : {x : Site} → and_then c (Ok s) ≡ Ok x → (x ≡ s) × ((k : Checked) → and_then c k ≡ k)
+  unfolding and_then
+  by_ok = go c
+    where
+      go : (c : Checked) {x : Site} → and_then c (Ok s) ≡ Ok x → (x ≡ s) × ((k : Checked) → and_then c k ≡ k)
+      go (Ok tt) e = (cc, λ k. refl)
+      go (Err j) e = (cc, λ k. cc)
 
 module _ (b : List ℕ) where
-  pub wrong_length : (length b ≡ 50 → ⊥) → value_check b ≡ Err BadLength
-  unfolding value_check and_then
-  wrong_length h = rw (ne_eqb (length b) 50 h)
+  pub value_err : {r : Rule} → and_then (value_length b) (Ok (site_in b)) ≡ Err r → value_check b ≡ Err r
+  unfolding value_check
+  value_err e = by_err (value_length b) (site_in b) e (site_rule (site_in b))
 
-  pub as_site : length b ≡ 50 → value_check b ≡ site_rule (site_in b)
-  unfolding value_check and_then
-  as_site h = rw (eq-eqb (length b) 50 h)
+  pub value_ok : {s : Site} → and_then (value_length b) (Ok (site_in b)) ≡ Ok s → (s ≡ site_in b) × (value_check b ≡ site_rule (site_in b))
+  unfolding value_check
+  value_ok e = let p = by_ok (value_length b) (site_in b) e in (p.0, p.1 (site_rule (site_in b)))
 
--- the check alone: its answer, and what the number says
-pub check_promised : (c : Checked) {r : ℕ} → r ≡ written_code (write_answer c 0) → (r ≡ written_code (write_answer c 0)) × Decodes (write_answer c 0) r
-check_promised c e = (e, by_check_decodes c 0 (omega arith) e)
+module _ (b : List ℕ) {s : Site} (h : and_then (value_length b) (Ok (site_in b)) ≡ Ok s) where
+  pub site_is : s ≡ site_in b
+  site_is = (value_ok b h).0
 
--- ---- `needed` numbers xs are to stand in a slice that holds `old`
+  pub rule_is : value_check b ≡ site_rule s
+  rule_is = (value_ok b h).1 ∙ ap site_rule (sym site_is)
 
-module _ (b : List ℕ) (needed : ℕ) (small : needed < code_base) (xs old : List ℕ) where
+-- a value that is refused, by its length or by a rule of its site, and one that passes
+module _ (b : List ℕ) where
+  pub refused : {A : Type 0} {r : Rule} (q : Result A Refusal) → value_check b ≡ Err r → Err (record { rule = r; at = 0 }) ≡ unless (value_check b) 0 q
+  unfolding unless
+  refused q e = rw e
+
+  pub passed : {A : Type 0} (q : Result A Refusal) → value_check b ≡ Ok tt → q ≡ unless (value_check b) 0 q
+  unfolding unless
+  passed q e = rw e
+
+-- the check alone
+pub check_promised : (c : Checked) {r : ℕ} → r ≡ written_code (write_answer c 0) → Decodes (write_answer c 0) r
+check_promised c e = by_check_decodes c 0 (omega arith) e
+
+-- ---- numbers xs of a value whose check says c, put at the front of a slice that held `old`
+
+written_is : (c : Checked) (xs : List ℕ) (room : ℕ) → numbers_written (unless c 0 (Ok xs)) room ≡ write_answer (output_rule c (length xs) room) (length xs)
+unfolding numbers_written unless output_rule and_then answer_if
+written_is (Ok tt) xs room = refl
+written_is (Err r) xs room = refl
+
+held_is : (c : Checked) (xs old : List ℕ) → numbers_held (unless c 0 (Ok xs)) old ≡ held_after (output_rule c (length xs) (length old)) xs old
+unfolding numbers_held unless output_rule and_then held_after
+held_is (Ok tt) xs old = refl
+held_is (Err r) xs old = refl
+
+module _ (b : List ℕ) (needed : ℕ) (small : needed < code_base) (xs old : List ℕ) (long : length xs ≡ needed) where
   -- answer, buffer, and what the number says
   abbrev Promises : ℕ → List ℕ → Type 0
   Promises r new =
       (r ≡ written_code (value_answer b needed (length old)))
       × ((new ≡ held_after (output_rule (value_check b) needed (length old)) xs old) × Decodes (value_answer b needed (length old)) r)
 
-  promised : {r : ℕ} {new : List ℕ} → r ≡ written_code (value_answer b needed (length old)) → new ≡ held_after (output_rule (value_check b) needed (length old)) xs old → Promises r new
-  promised a h = (a, (h, by_check_decodes _ needed small a))
-
-  -- a refusal of the value
-  pub value_refused : (r : Rule) → value_check b ≡ Err r → Promises (written_code (Refused r 0)) old
-  unfolding answer_if held_after
-  value_refused r e = let q = output_broken needed (length old) (value_check b) r e in promised (rw q) (rw q)
-
-  -- a slice that is too short
-  pub value_short : value_check b ≡ Ok tt → length old < needed → Promises (written_code (Refused BufferShort 0)) old
-  unfolding answer_if held_after
-  value_short e h = let q = output_short needed (length old) (value_check b) e h in promised (rw q) (rw q)
-
-  -- success
-  pub value_written : {r : ℕ} {new : List ℕ} → value_check b ≡ Ok tt → length xs ≡ needed → needed ≤ length old → Wrote old 0 xs new r → Promises needed new
-  unfolding answer_if held_after written_code
-  value_written e l h w = let q = output_whole needed (length old) (value_check b) e h in promised (rw q) (rw q (in_front w (omega arith)).1)
+  pub value_numbers : {q : Result (List ℕ) Refusal} {w : Written} {r : ℕ} {new : List ℕ} → q ≡ unless (value_check b) 0 (Ok xs)
+      → w ≡ numbers_written q (length old) → new ≡ numbers_held q old → r ≡ written_code w → Promises r new
+  value_numbers is written held code =
+      let answer : _ ≡ value_answer b needed (length old) = rw long at (written ∙ ap (λ (x : Result (List ℕ) Refusal). numbers_written x (length old)) is ∙ written_is (value_check b) xs (length old)) in
+      let number = code ∙ ap written_code answer in
+      (number, (rw long at (held ∙ ap (λ (x : Result (List ℕ) Refusal). numbers_held x old) is ∙ held_is (value_check b) xs old), by_check_decodes _ needed small number))
 
 pub length_marked : (v : Verdict) → length (verdict_marked v) ≡ 4
 unfolding verdict_marked verdict_numbers
@@ -96,10 +135,10 @@ unfolding verdict_marked verdict_numbers mark_number
 mark_at Within rest = refl
 mark_at (Over g x y) rest = refl
 
-counted_passed : (c : Checked) (n : ℕ) {k : ℕ} → write_answer c n ≡ Count k → c ≡ Ok tt
+pub counted_passed : (c : Checked) (n : ℕ) {k : ℕ} → write_answer c n ≡ Ok k → c ≡ Ok tt
 unfolding answer_if
 counted_passed (Ok tt) n e = refl
-counted_passed (Err r) n e = let z : ◌≡◌ {A = ℕ} 0 1 = cc in absurd (omega arith)
+counted_passed (Err r) n e = cc
 
 -- ---- what the numbers say, where they were written
 
@@ -140,3 +179,26 @@ module _ (b old new : List ℕ) where
       × ((new ≡ held_after (output_rule (value_check b) 2 (length old)) (level_numbers (terms_of (site_in b))) old) × (A × (r ≡ 2 → FewAt (terms_of (site_in b)) (get_or new 1 0))))
   unfolding level_numbers
   with_count = said b 2 (omega arith) (level_numbers (terms_of (site_in b))) old new (λ p e. rw e (few_at (site_in b) (value_passes b p)))
+
+-- the numbers of a site's loads, of its level and of its judgement
+module _ (b : List ℕ) {s : Site} (is : s ≡ site_in b) where
+  pub loads_are : {l : Loads} → l ≡ loads_of (terms_of s) → l.max_s ∷ l.min_n ∷ l.max_n ∷ l.nut_n ∷ [] ≡ site_load_numbers (site_in b)
+  unfolding site_load_numbers load_numbers
+  loads_are e = rw (e, is)
+
+  pub level_is : {f : Searched} → f ≡ searched_at (terms_of s) → f.level ∷ f.compared ∷ [] ≡ level_numbers (terms_of (site_in b))
+  unfolding level_numbers searched_at searched_of greatest_level levels_compared
+  level_is e = rw (e, is)
+
+  pub judgement_is : {j : Judged} → j ≡ judged_of s → judged_numbers j ≡ judgement_numbers (site_in b)
+  unfolding judgement_numbers judged_numbers site_load_numbers judged_of
+  judgement_is e = rw (e, is)
+
+module _ (b : List ℕ) where
+  pub length_loads : length (site_load_numbers (site_in b)) ≡ 4
+  unfolding site_load_numbers load_numbers
+  length_loads = refl
+
+  pub length_level : length (level_numbers (terms_of (site_in b))) ≡ 2
+  unfolding level_numbers
+  length_level = refl

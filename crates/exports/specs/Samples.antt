@@ -8,7 +8,6 @@ use Rattle.output.specs.Output.{Written}
 use Rattle.readings.specs.MonthBytes.{months_in}
 use Rattle.sampler.specs.YearPair.{year_of}
 use Rattle.sampler.specs.SampleAnswers.{with_pair, checked_first, year_answer}
-use Rattle.sampler.specs.declared.Pair.{Pair}
 use Rattle.sampler.specs.declared.Sampled.{Sampled}
 use Rattle.exports.specs.Numbers.{numbers_written, numbers_held}
 use Rattle.exports.specs.Layout.{site_in, value_check, judged_numbers, judgement_numbers}

@@ -4,7 +4,7 @@
 mod codes;
 mod file_calls;
 mod layout;
-mod numbers;
+mod putting;
 mod record_calls;
 mod sample_calls;
 mod value_calls;

@@ -7,14 +7,14 @@ ghost use Rattle.exports.specs.Layout.{site_in};
 ghost use Rattle.exports.specs.Samples.{sample_in, sampled, sample_written, sample_held, NumbersByKey};
 
 use crate::codes::written_code;
-use crate::numbers::put_numbers;
+use crate::putting::put_numbers;
 use crate::value_calls::{judged_numbers, site_value};
 use readings::months_in;
 use sampler::{Sampled, judge_months, refuse_checked};
 use site::{Refusal, Rule};
 
 // The answer for the bytes of a site value and of its months.
-#[tactic(auto, using(crate::proofs::SampleCallLaws::site_length, crate::proofs::SampleCallLaws::months_length_lem, crate::proofs::SampleCallLaws::both_whole))]
+#[tactic(auto, using(crate::proofs::SampleCallLaws::months_refused, crate::proofs::SampleCallLaws::both_whole))]
 fn sample_in(site: &[u8], months: &[u8]) -> Result<Sampled, Refusal>
     ensures { result ≡ sample_in site.now months.now }
 {
@@ -26,12 +26,24 @@ fn sample_in(site: &[u8], months: &[u8]) -> Result<Sampled, Refusal>
 }
 
 // S and N, then the numbers of their judgement.
+#[tactic(auto, unfolding(crate::specs::Samples::sampled, crate::specs::Samples::sampled_numbers))]
 fn sampled_of(site: &[u8], months: &[u8]) -> Result<[u64; 10], Refusal>
     ensures { result ≡ sampled (sample_in site.now months.now) }
 {
     let Sampled { pair, judged } = sample_in(site, months)?;
     let [a, b, c, d, e, f, g, h] = judged_numbers(judged);
-    Ok([u64::from(pair.sulphur), u64::from(pair.nitrogen), a, b, c, d, e, f, g, h])
+    Ok([
+        u64::from(pair.sulphur),
+        u64::from(pair.nitrogen),
+        a,
+        b,
+        c,
+        d,
+        e,
+        f,
+        g,
+        h,
+    ])
 }
 
 #[unsafe(no_mangle)]

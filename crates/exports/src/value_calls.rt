@@ -11,7 +11,7 @@ ghost use Rattle.exports.specs.Layout.{site_in, value_length, value_check, value
 
 use crate::codes::written_code;
 use crate::layout::site_in;
-use crate::numbers::put_numbers;
+use crate::putting::put_numbers;
 use judgement::{Judged, Verdict, judge};
 use level::level_at;
 use loads::critical_loads;
@@ -89,7 +89,16 @@ pub fn judged_numbers(judged: Judged) -> [u64; 8]
             region,
             acid,
             nutrient,
-        } => [l.max_s, l.min_n, l.max_n, l.nut_n, u64::from(region), acid, nutrient, 1],
+        } => [
+            l.max_s,
+            l.min_n,
+            l.max_n,
+            l.nut_n,
+            u64::from(region),
+            acid,
+            nutrient,
+            1,
+        ],
     }
 }
 
