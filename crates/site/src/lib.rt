@@ -13,12 +13,12 @@ mod value;
 pub use bytes::{entries_in, entry_at, name_in};
 pub use check::check_site;
 pub use length::length_permitted;
-pub use value::value_rule;
 pub use ranges::{
     AVAILABLE, BASE_DEPOSITION, CEILING, DEPTH, DRAINAGE, GIBBSITE, IMMOBILISATION, LEACHATE,
     PARENT, PERCOLATION, RATIO, Range, texture_rule,
 };
 pub use rules::rule_number;
+pub use value::value_rule;
 
 // An entry of the stand: species, share in percent, yield of a pure stand in kg dry matter per hectare and year.
 #[derive(Clone, Copy)]
