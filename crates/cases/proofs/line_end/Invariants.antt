@@ -1,9 +1,0 @@
--- i is not before `at` and stays within the text.
-use Rattle.std.proofs.Common.{length, ◌-◌, ◌≤◌}
-use Rattle.cases.proofs.line_end.Given as goal
-
-abbrev pub invariant-loop-i : goal.invariant-loop-i
-invariant-loop-i l = (l.fn.at ≤ l.i) × (l.i ≤ length l.text)
-
-abbrev pub decreases-loop-i : goal.decreases-loop-i
-decreases-loop-i l = length l.text - l.i
