@@ -71,7 +71,7 @@ pub fn print_repeated(rt: &impl Print, bytes: &[u8]) -> Result<(), Stop> {
 }
 
 // A record read, and written again into a lent buffer.
-#[tactic(auto, unfolding(site::specs::ByCheck::answer_if, output::specs::Output::held_after))]
+#[tactic(auto, unfolding(site::specs::Refusal::unless, output::specs::Output::held_after))]
 pub fn print_rewritten(rt: &impl Print, record: &[u8], out: &mut [u8]) -> Result<(), Stop> {
     let site = read_record(record)?;
     let n = write_record(site, out)?;

@@ -8,8 +8,8 @@ use borrow.Author.Tests.{eq-eqb, ne_eqb}
 use Rattle.std.specs.Prelude.{Result, Ok, Err}
 use Rattle.site.specs.Bytes.{tabulate}
 use Rattle.site.specs.Check.{site_rule}
-use Rattle.site.specs.Refusal.{Checked, and_then}
-use Rattle.site.specs.ByCheck.{answer_if}
+use Rattle.site.specs.Refusal.{Checked, and_then, unless}
+use Rattle.site.proofs.ByCheckLaws.{unless_ok}
 use Rattle.site.specs.declared.Refusal.{Refusal}
 use Rattle.site.specs.declared.Rule.{Rule}
 use Rattle.site.specs.declared.Rule.TheVariants.{BadLength}
@@ -27,11 +27,11 @@ use Rattle.judgement.proofs.JudgementAnswers.{judgement_given}
 use Rattle.output.specs.Output.{Written, held_after}
 use Rattle.output.proofs.OutputLaws.{count_is, refused_at_0}
 use Rattle.readings.specs.MonthBytes.{months_in}
-use Rattle.sampler.specs.SampleAnswers.{with_pair, ByKey, checked_first, sample_answer}
+use Rattle.sampler.specs.SampleAnswers.{with_pair, ByKey, sample_answer}
 use Rattle.sampler.specs.declared.Month.{Month}
 use Rattle.sampler.specs.declared.Pair.{Pair}
 use Rattle.sampler.specs.declared.Sampled.{Sampled}
-use Rattle.sampler.proofs.SampleLaws.{pair_rule, pair_terms, sample_given, checked_given, checked_at, year_at}
+use Rattle.sampler.proofs.SampleLaws.{pair_rule, pair_terms, sample_given, checked_at, year_at}
 use Rattle.exports.specs.Codes.{code_base, written_code, Decodes}
 use Rattle.exports.specs.Numbers.{numbers_written, numbers_held}
 use Rattle.exports.specs.Layout.{site_in, value_length, value_check, site_load_numbers, mark_number, verdict_marked, judged_numbers, judgement_numbers}
@@ -44,16 +44,16 @@ use Rattle.exports.proofs.SiteValueLaws.{value_err, site_is, rule_is, value_pass
 module _ (b m : List ℕ) where
   -- a site value that is refused
   pub sample_refused : {r : Rule} → and_then (value_length b) (Ok (site_in b)) ≡ Err r → sample_in b m ≡ Err (record { rule = r; at = 0 })
-  unfolding sample_in answer_if
+  unfolding sample_in unless
   sample_refused e = rw (value_err b e)
 
   module _ {s : Site} (h : and_then (value_length b) (Ok (site_in b)) ≡ Ok s) where
-    pub months_refused : (length m ≡ 204 → ⊥) → sample_in b m ≡ checked_first (site_rule s) (Err (record { rule = BadLength; at = 0 }))
-    unfolding sample_in months_length answer_if
+    pub months_refused : (length m ≡ 204 → ⊥) → sample_in b m ≡ unless (site_rule s) 0 (Err (record { rule = BadLength; at = 0 }))
+    unfolding sample_in months_length unless
     months_refused n = rw (rule_is b h, ne_eqb (length m) 204 n)
 
     pub both_whole : length m ≡ 204 → sample_in b m ≡ sample_answer s (months_in m)
-    unfolding sample_in months_length sample_answer answer_if
+    unfolding sample_in months_length sample_answer unless
     both_whole n = rw (rule_is b h, eq-eqb (length m) 204 n, site_is b h)
 
   twelve : length (months_in m) ≡ 12
@@ -67,13 +67,13 @@ module _ (b m : List ℕ) where
 
   -- what is given is the call's own answer for the site and the months
   whole_given : (p : Sampled) → sample_in b m ≡ Ok p → (site_rule (site_in b) ≡ Ok tt) × ByKey (site_in b) (months_in m) p
-  unfolding sample_in answer_if sample_answer
+  unfolding sample_in unless sample_answer
   whole_given p e =
-      let c = checked_given (value_check b) _ p e in
-      let d = checked_given (months_length m) _ p c.1 in
+      let c = unless_ok (value_check b) 0 _ e in
+      let d = unless_ok (months_length m) 0 _ c.1 in
       sample_given (site_in b) (months_in m) p (passing (site_rule (site_in b)) (value_passes b c.0) d.1)
     where
-      passing : (k : Checked) → k ≡ Ok tt → {a : Result Sampled Refusal} → a ≡ Ok p → checked_first k a ≡ Ok p
+      passing : (k : Checked) → k ≡ Ok tt → {a : Result Sampled Refusal} → a ≡ Ok p → unless k 0 a ≡ Ok p
       passing k f g = rw (f, g)
 
 -- ---- what the ten numbers say

@@ -5,9 +5,8 @@ use mathlib.Core.List.{List, [], ◌∷◌, ◌++◌}
 use native.Mathlib.Omega.{arith}
 use lib.ListN.{length, drop, get_or}
 use Rattle.std.specs.Prelude.{Result, Ok, Err}
-use Rattle.site.specs.Refusal.{and_then, Checked}
+use Rattle.site.specs.Refusal.{and_then, Checked, unless}
 use Rattle.site.specs.Check.{site_rule}
-use Rattle.site.specs.ByCheck.{answer_if}
 use Rattle.site.specs.declared.Refusal.{Refusal}
 use Rattle.site.specs.declared.Rule.{Rule}
 use Rattle.site.specs.declared.Site.{Site}
@@ -29,7 +28,6 @@ use Rattle.judgement.proofs.Demand3.{verdict_tells}
 use Rattle.judgement.proofs.AtSites.{site_bounds}
 use Rattle.output.specs.Output.{Written, write_answer, output_rule, held_after}
 use Rattle.output.proofs.OutputLaws.{output_whole, output_passed}
-use Rattle.record.specs.Result.{unless}
 use Rattle.exports.specs.Codes.{code_base, written_code, Decodes}
 use Rattle.exports.specs.Numbers.{numbers_written, numbers_held}
 use Rattle.exports.specs.Layout.{site_in, value_length, value_check, value_answer, site_load_numbers, mark_number, verdict_marked, judged_numbers, judgement_numbers}
@@ -88,7 +86,7 @@ check_promised c e = by_check_decodes c 0 (omega arith) e
 -- ---- numbers xs of a value whose check says c, put at the front of a slice that held `old`
 
 written_is : (c : Checked) (xs : List ℕ) (room : ℕ) → numbers_written (unless c 0 (Ok xs)) room ≡ write_answer (output_rule c (length xs) room) (length xs)
-unfolding numbers_written unless output_rule and_then answer_if
+unfolding numbers_written unless output_rule and_then unless
 written_is (Ok tt) xs room = refl
 written_is (Err r) xs room = refl
 
@@ -136,7 +134,7 @@ mark_at Within rest = refl
 mark_at (Over g x y) rest = refl
 
 pub counted_passed : (c : Checked) (n : ℕ) {k : ℕ} → write_answer c n ≡ Ok k → c ≡ Ok tt
-unfolding answer_if
+unfolding unless
 counted_passed (Ok tt) n e = refl
 counted_passed (Err r) n e = cc
 

@@ -1,13 +1,13 @@
 -- The call on a site value and the rain sampler's months: the bytes of both, and the ten numbers.
 use Rattle.std.specs.Prelude.{ℕ, ◌≡◌, List, ◌∷◌, eqb, Result, Ok, Err, length, get_or, take, drop}
 use Rattle.site.specs.Choice.{pick}
-use Rattle.site.specs.Refusal.{Checked}
+use Rattle.site.specs.Refusal.{Checked, unless}
 use Rattle.site.specs.declared.Rule.TheVariants.{BadLength}
 use Rattle.site.specs.declared.Refusal.{Refusal}
 use Rattle.output.specs.Output.{Written}
 use Rattle.readings.specs.MonthBytes.{months_in}
 use Rattle.sampler.specs.YearPair.{year_of}
-use Rattle.sampler.specs.SampleAnswers.{with_pair, checked_first, year_answer}
+use Rattle.sampler.specs.SampleAnswers.{with_pair, year_answer}
 use Rattle.sampler.specs.declared.Sampled.{Sampled}
 use Rattle.exports.specs.Numbers.{numbers_written, numbers_held}
 use Rattle.exports.specs.Layout.{site_in, value_check, judged_numbers, judgement_numbers}
@@ -18,7 +18,7 @@ months_length m = pick (eqb (length m) 204) (Ok tt) (Err BadLength)
 
 -- the rules of the site value, then the length of the months, then their rules and that of the year
 unfoldable pub sample_in : (site months : List ℕ) → Result Sampled Refusal
-sample_in b m = checked_first (value_check b) (checked_first (months_length m) (year_answer (site_in b) (year_of (months_in m))))
+sample_in b m = unless (value_check b) 0 (unless (months_length m) 0 (year_answer (site_in b) (year_of (months_in m))))
 
 -- S and N, then the eight numbers of their judgement
 unfoldable pub sampled_numbers : Sampled → List ℕ

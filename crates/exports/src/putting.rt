@@ -5,7 +5,7 @@ ghost use Rattle.exports.specs.Numbers.{numbers_written, numbers_held};
 use site::{Refusal, Rule};
 
 // N numbers at the front of the slice, or what refuses them; 11 comes last.
-#[tactic(auto, using(output::proofs::OutputLaws::room_enough, output::proofs::OutputLaws::room_short), unfolding(crate::specs::Numbers::numbers_written, crate::specs::Numbers::numbers_held, site::specs::ByCheck::answer_if, output::specs::Output::held_after))]
+#[tactic(auto, using(output::proofs::OutputLaws::room_enough, output::proofs::OutputLaws::room_short), unfolding(crate::specs::Numbers::numbers_written, crate::specs::Numbers::numbers_held, site::specs::Refusal::unless, output::specs::Output::held_after))]
 pub fn put_numbers<const N: usize>(
     numbers: Result<[u64; N], Refusal>,
     out: &mut [u64],

@@ -1,7 +1,6 @@
 // Check, loads, hydrogen level and judgement of a site value.
 ghost use Rattle.std.specs.Prelude.{◌≡◌, Ok, length, get_or};
-ghost use Rattle.site.specs.Refusal.{and_then};
-ghost use Rattle.record.specs.Result.{unless};
+ghost use Rattle.site.specs.Refusal.{and_then, unless};
 ghost use Rattle.loads.specs.SiteTerms.{terms_of};
 ghost use Rattle.loads.specs.Search.{level_numbers, FewAt};
 ghost use Rattle.judgement.specs.Balance.{MarkSays};

@@ -1,5 +1,5 @@
 -- The fields of a site record by tag, both ways: a value taken into a site, and the bytes of a site's value.
-use Rattle.std.specs.Prelude.{ℕ, Result, Ok, ◌*◌, ◌/◌, List, [], ◌∷◌, ◌++◌, eqb, get_or, length, take, replicate}
+use Rattle.std.specs.Prelude.{ℕ, ◌*◌, ◌/◌, List, [], ◌∷◌, ◌++◌, eqb, get_or, length, take, replicate}
 use Rattle.site.specs.declared.Entry.{Entry}
 use Rattle.site.specs.declared.Site.{Site}
 use Rattle.site.specs.Bounds.{no_entry}
@@ -7,9 +7,7 @@ use Rattle.numbers.specs.TwoBytes.{word_at, word_bytes}
 use Rattle.site.specs.Bytes.{tabulate, name_in, entry_at}
 use Rattle.site.specs.Choice.{pick}
 use Rattle.site.specs.Values.{due, length_permitted, value_rule}
-use Rattle.site.specs.declared.Rule.{Rule}
-use Rattle.site.specs.Refusal.{and_then}
-use Rattle.field.specs.Kind.{Kind, field_rule}
+use Rattle.field.specs.Kind.{Kind}
 
 -- the value v of the field with tag t, put into s; past v's end stand zeros
 unfoldable pub store : ℕ → List ℕ → Site → Site
@@ -90,6 +88,6 @@ abbrev pub site_kind : Kind Site
 site_kind =
     record { tag = 82; due = due; blank = blank_site; permitted = length_permitted; store = store; rule = value_rule; bytes = value }
 
--- what rules 7 to 10 say of the field, or the site with its value
-unfoldable pub taken : ℕ → List ℕ → Site → Result Site Rule
-taken t v s = and_then (field_rule site_kind t v s) (Ok (store t v s))
+-- the site with the field's value, where its length is permitted: also if rules 8 to 10 refuse it
+unfoldable pub taken : ℕ → List ℕ → Site → Site
+taken t v s = pick (length_permitted t (length v)) (store t v s) s

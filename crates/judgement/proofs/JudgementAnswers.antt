@@ -6,7 +6,7 @@ use Rattle.site.specs.Check.{site_rule}
 use Rattle.site.specs.declared.Site.{Site}
 use Rattle.site.specs.declared.Rule.{Rule}
 use Rattle.std.specs.Prelude.{Ok, Err}
-use Rattle.site.specs.ByCheck.{answer_if}
+use Rattle.site.specs.Refusal.{and_then}
 use Rattle.site.proofs.ByCheckLaws.{given_by_lem, refused_by}
 use Rattle.loads.specs.SiteTerms.{terms_of}
 use Rattle.loads.specs.Terms.{Terms}
@@ -44,7 +44,7 @@ judged_values_lem s = rw (numbers_are (terms_of s) s.sulphur s.nitrogen, word_is
 module _ (s : Site) where
   -- a site that passes the check is judged
   pub judged_passing : site_rule s ≡ Ok tt → judgement_answer s ≡ Ok (judged_of s)
-  unfolding judgement_answer answer_if
+  unfolding judgement_answer and_then
   judged_passing p = rw p
 
   pub judged_says : site_rule s ≡ Ok tt → Says (verdict_word (judged_of s).verdict) s
@@ -54,8 +54,8 @@ module _ (s : Site) where
   -- what an answer says of its site
   pub judgement_given : (j : Judged) → judgement_answer s ≡ Ok j → (site_rule s ≡ Ok tt) × (j ≡ judged_of s)
   unfolding judgement_answer
-  judgement_given = given_by_lem Ok Err (λ j r e. cc) (λ j k e. cc) (site_rule s) (judged_of s)
+  judgement_given = given_by_lem (site_rule s) (judged_of s)
 
   pub judgement_refused : (r : Rule) → judgement_answer s ≡ Err r → site_rule s ≡ Err r
   unfolding judgement_answer
-  judgement_refused = refused_by Ok Err (λ j r e. cc) (λ r k e. cc) (site_rule s) (judged_of s)
+  judgement_refused = refused_by (site_rule s) (judged_of s)

@@ -3,9 +3,8 @@ use Rattle.std.specs.Prelude.{ℕ, ◌&&◌, List, ◌∷◌, ◌++◌, eqb, Res
 use Rattle.site.specs.Choice.{pick}
 use Rattle.site.specs.declared.Site.{Site}
 use Rattle.site.specs.declared.Rule.{Rule}
-use Rattle.site.specs.Refusal.{refusal_values}
+use Rattle.site.specs.Refusal.{refusal_values, and_then}
 use Rattle.site.specs.Check.{site_rule}
-use Rattle.site.specs.ByCheck.{answer_if}
 use Rattle.loads.specs.Terms.{Terms}
 use Rattle.loads.specs.SiteTerms.{terms_of}
 use Rattle.loads.specs.CriticalLoads.{cl_max_s, cl_min_n, cl_max_n, cl_nut_n, loads_of, load_numbers}
@@ -18,7 +17,7 @@ unfoldable pub judged_of : Site → Judged
 judged_of s = record { loads = loads_of (terms_of s); verdict = verdict (terms_of s) s.sulphur s.nitrogen }
 
 unfoldable pub judgement_answer : Site → Result Judged Rule
-judgement_answer s = answer_if Ok Err (site_rule s) (judged_of s)
+judgement_answer s = and_then (site_rule s) (Ok (judged_of s))
 
 -- the values of each case: the loads, region and exceedances, and the word's bytes; or the refusal's number and offset
 unfoldable pub judged_values : Judged → List ℕ

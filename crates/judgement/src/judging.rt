@@ -32,7 +32,7 @@ impl Position {
 }
 
 // The loads of a site and the verdict on its own pair, or the first rule that it breaks.
-#[tactic(auto, using(crate::proofs::JudgementAnswers::verdict_by_loads, crate::proofs::JudgementAnswers::judged_values_lem, crate::proofs::JudgementAnswers::judged_says), unfolding(crate::specs::Answers::judgement_answer, crate::specs::Answers::judgement_values, crate::specs::Answers::judged_of, site::specs::Refusal::values_if, site::specs::ByCheck::answer_if))]
+#[tactic(auto, using(crate::proofs::JudgementAnswers::verdict_by_loads, crate::proofs::JudgementAnswers::judged_values_lem, crate::proofs::JudgementAnswers::judged_says), unfolding(crate::specs::Answers::judgement_answer, crate::specs::Answers::judgement_values, crate::specs::Answers::judged_of, site::specs::Refusal::values_if, site::specs::Refusal::and_then))]
 pub fn judge(site: Site) -> Result<Judged, Rule>
     ensures answer { result ≡ judgement_answer site }
     ensures values { judgement_values result ≡ values_if (site_rule site) (pair_values (terms_of site) site.sulphur site.nitrogen) }

@@ -31,7 +31,7 @@ impl TryFrom<Site> for Position {
 
     ghost try_from_gives = { λ s r. MatchResult r (λ p. (site_rule s ≡ Ok tt) × (p.sulphur ≡ s.sulphur) × (p.nitrogen ≡ s.nitrogen) × (p.loads ≡ loads_of (terms_of s)) × (p.undenitrified ≡ (terms_of s).e)) (λ rule. site_rule s ≡ Err rule) };
 
-    #[tactic(auto, using(loads::proofs::DenitrifiedLaws::undenitrified_least, loads::proofs::DenitrifiedLaws::undenitrified_most, crate::proofs::AtSites::max_s_le), unfolding(loads::specs::CriticalLoads::loads_answer, site::specs::ByCheck::answer_if))]
+    #[tactic(auto, using(loads::proofs::DenitrifiedLaws::undenitrified_least, loads::proofs::DenitrifiedLaws::undenitrified_most, crate::proofs::AtSites::max_s_le), unfolding(loads::specs::CriticalLoads::loads_answer, site::specs::Refusal::and_then))]
     fn try_from(site: Site) -> Result<Position, Rule> {
         let loads = critical_loads(site)?;
         Ok(Position {

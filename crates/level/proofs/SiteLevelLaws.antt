@@ -7,7 +7,6 @@ use Rattle.std.specs.Prelude.{Ok, Err}
 use Rattle.site.specs.Check.{site_rule}
 use Rattle.site.specs.Refusal.{and_then, values_if}
 use Rattle.site.specs.Values.{value_rule}
-use Rattle.site.specs.ByCheck.{answer_if}
 use Rattle.site.specs.declared.Site.{Site}
 use Rattle.site.specs.declared.Rule.{Rule}
 use Rattle.site.proofs.FieldLaws.{site_passed}
@@ -30,24 +29,24 @@ module _ (s : Site) where
 
   -- the answer by that of the aluminium limit
   pub by_limit : (a : ℕ) → limit_answer s ≡ Ok a → level_answer s.percolation s.gibbsite a s.ceiling ≡ site_level s
-  unfolding level_answer site_level answer_if searched_at terms_of
+  unfolding level_answer site_level and_then searched_at terms_of
   by_limit a e = let g = limit_given s a e in rw (g.0, g.1, search_passed g.0)
 
   pub by_refusal : (r : Rule) → limit_answer s ≡ Err r → site_level s ≡ Err r
-  unfolding site_level answer_if
+  unfolding site_level and_then
   by_refusal r e = rw (limit_refused s r e)
 
   pub site_level_values : level_values (site_level s) ≡ values_if (site_rule s) (level_numbers (terms_of s))
   unfolding site_level level_values searched_numbers searched_at searched_of greatest_level levels_compared level_numbers
-  site_level_values = values_by Ok Err level_values searched_numbers (λ f. refl) (λ r. refl) (site_rule s) (searched_at (terms_of s))
+  site_level_values = values_by level_values searched_numbers (λ f. refl) (λ r. refl) (site_rule s) (searched_at (terms_of s))
 
   pub level_given : (f : Searched) → site_level s ≡ Ok f → (site_rule s ≡ Ok tt) × (f ≡ searched_at (terms_of s))
   unfolding site_level
-  level_given = given_by_lem Ok Err (λ f r e. cc) (λ f g e. cc) (site_rule s) (searched_at (terms_of s))
+  level_given = given_by_lem (site_rule s) (searched_at (terms_of s))
 
   pub level_refused : (r : Rule) → site_level s ≡ Err r → site_rule s ≡ Err r
   unfolding site_level
-  level_refused = refused_by Ok Err (λ f r e. cc) (λ r k e. cc) (site_rule s) (searched_at (terms_of s))
+  level_refused = refused_by (site_rule s) (searched_at (terms_of s))
 
   -- how many levels are compared at a site that passes
   pub few_at : site_rule s ≡ Ok tt → FewAt (terms_of s) (length (levels_compared (terms_of s)))

@@ -3,10 +3,10 @@ use Rattle.std.specs.Prelude.{Result, Ok, Err}
 use Rattle.site.specs.declared.Site.{Site}
 use Rattle.site.specs.declared.Rule.{Rule}
 use Rattle.site.specs.Check.{site_rule}
-use Rattle.site.specs.ByCheck.{answer_if}
+use Rattle.site.specs.Refusal.{and_then}
 use Rattle.loads.specs.declared.Searched.{Searched}
 use Rattle.loads.specs.SiteTerms.{terms_of}
 use Rattle.loads.specs.Search.{searched_at}
 
 unfoldable pub site_level : Site → Result Searched Rule
-site_level s = answer_if Ok Err (site_rule s) (searched_at (terms_of s))
+site_level s = and_then (site_rule s) (Ok (searched_at (terms_of s)))

@@ -12,8 +12,8 @@ use Rattle.loads.specs.Limits.{limit_answer}
 module _ (s : Site) where
   pub limit_given : (a : ℕ) → limit_answer s ≡ Ok a → (site_rule s ≡ Ok tt) × (a ≡ (terms_of s).A)
   unfolding limit_answer
-  limit_given = given_by_lem Ok Err (λ a r e. cc) (λ a k e. cc) (site_rule s) (terms_of s).A
+  limit_given = given_by_lem (site_rule s) (terms_of s).A
 
   pub limit_refused : (r : Rule) → limit_answer s ≡ Err r → site_rule s ≡ Err r
   unfolding limit_answer
-  limit_refused = refused_by Ok Err (λ a r e. cc) (λ r k e. cc) (site_rule s) (terms_of s).A
+  limit_refused = refused_by (site_rule s) (terms_of s).A

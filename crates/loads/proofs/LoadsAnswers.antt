@@ -12,8 +12,8 @@ use Rattle.loads.specs.CriticalLoads.{loads_of, loads_answer}
 module _ (s : Site) where
   pub loads_given : (l : Loads) → loads_answer s ≡ Ok l → (site_rule s ≡ Ok tt) × (l ≡ loads_of (terms_of s))
   unfolding loads_answer
-  loads_given = given_by_lem Ok Err (λ l r e. cc) (λ l k e. cc) (site_rule s) (loads_of (terms_of s))
+  loads_given = given_by_lem (site_rule s) (loads_of (terms_of s))
 
   pub loads_refused : (r : Rule) → loads_answer s ≡ Err r → site_rule s ≡ Err r
   unfolding loads_answer
-  loads_refused = refused_by Ok Err (λ l r e. cc) (λ r k e. cc) (site_rule s) (loads_of (terms_of s))
+  loads_refused = refused_by (site_rule s) (loads_of (terms_of s))

@@ -5,9 +5,8 @@
 use Rattle.std.specs.Prelude.{ℕ, ◌+◌, ◌*◌, ◌/◌, List, [], ◌∷◌, Result, Ok, Err}
 use Rattle.site.specs.declared.Site.{Site}
 use Rattle.site.specs.declared.Rule.{Rule}
-use Rattle.site.specs.Refusal.{refusal_values}
+use Rattle.site.specs.Refusal.{refusal_values, and_then}
 use Rattle.site.specs.Check.{site_rule}
-use Rattle.site.specs.ByCheck.{answer_if}
 use Rattle.loads.specs.declared.Loads.{Loads}
 use Rattle.loads.specs.Terms.{Terms}
 use Rattle.loads.specs.SiteTerms.{terms_of}
@@ -37,7 +36,7 @@ unfoldable pub load_numbers : Loads → List ℕ
 load_numbers l = l.max_s ∷ l.min_n ∷ l.max_n ∷ l.nut_n ∷ []
 
 unfoldable pub loads_answer : Site → Result Loads Rule
-loads_answer s = answer_if Ok Err (site_rule s) (loads_of (terms_of s))
+loads_answer s = and_then (site_rule s) (Ok (loads_of (terms_of s)))
 
 -- the values of each case: the loads, or the refusal's number and offset
 unfoldable pub loads_values : Result Loads Rule → List ℕ

@@ -2,13 +2,12 @@
 use Rattle.std.specs.Prelude.{ℕ, List, [], ◌∷◌, Result, Ok, Err}
 use Rattle.site.specs.declared.Site.{Site}
 use Rattle.site.specs.declared.Rule.{Rule}
-use Rattle.site.specs.Refusal.{refusal_values}
+use Rattle.site.specs.Refusal.{refusal_values, and_then}
 use Rattle.site.specs.Check.{site_rule}
-use Rattle.site.specs.ByCheck.{answer_if}
 use Rattle.loads.specs.SiteTerms.{terms_of}
 
 unfoldable pub limit_answer : Site → Result ℕ Rule
-limit_answer s = answer_if Ok Err (site_rule s) (terms_of s).A
+limit_answer s = and_then (site_rule s) (Ok (terms_of s).A)
 
 -- the values of each case: A, or the refusal's number and offset
 unfoldable pub limit_values : Result ℕ Rule → List ℕ

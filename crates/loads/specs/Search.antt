@@ -2,7 +2,6 @@
 use Rattle.std.specs.Prelude.{ℕ, zero, suc, ◌+◌, ◌-◌, ◌/◌, ◌≤◌, Bool, ◌↔◌, ◌≡◌, List, [], ◌∷◌, leb, length, Result, Ok, Err}
 use Rattle.site.specs.Choice.{pick}
 use Rattle.site.specs.Refusal.{and_then, refusal_values, Checked}
-use Rattle.site.specs.ByCheck.{answer_if}
 use Rattle.site.specs.Ranges.{percolation_range, gibbsite_range, ceiling_range}
 use Rattle.site.specs.Values.{between}
 use Rattle.site.specs.declared.Rule.{Rule}
@@ -43,7 +42,7 @@ unfoldable pub level_rule : (q k ceiling : ℕ) → Checked
 level_rule q k ceiling = and_then (between percolation_range q) (and_then (between gibbsite_range k) (between ceiling_range ceiling))
 
 unfoldable pub level_answer : (q k limit ceiling : ℕ) → Result Searched Rule
-level_answer q k limit ceiling = answer_if Ok Err (level_rule q k ceiling) (searched_of q k limit ceiling)
+level_answer q k limit ceiling = and_then (level_rule q k ceiling) (Ok (searched_of q k limit ceiling))
 
 -- the level, and how many levels were compared
 unfoldable pub searched_numbers : Searched → List ℕ

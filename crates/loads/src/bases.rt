@@ -37,7 +37,7 @@ impl ValidSite {
 }
 
 // The aluminium limit of a site, or the first rule that it breaks.
-#[tactic(auto, unfolding(crate::specs::Limits::limit_answer, crate::specs::Limits::limit_values, site::specs::Refusal::values_if, site::specs::ByCheck::answer_if))]
+#[tactic(auto, unfolding(crate::specs::Limits::limit_answer, crate::specs::Limits::limit_values, site::specs::Refusal::values_if, site::specs::Refusal::and_then))]
 pub fn aluminium_limit(site: Site) -> Result<u64, Rule>
     ensures answer { result ≡ limit_answer site }
     ensures values { limit_values result ≡ values_if (site_rule site) ((terms_of site).A ∷ []) }

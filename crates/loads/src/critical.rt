@@ -48,7 +48,7 @@ impl ValidSite {
 }
 
 // The loads of a site, or the first rule that it breaks.
-#[tactic(auto, unfolding(crate::specs::CriticalLoads::loads_answer, crate::specs::CriticalLoads::loads_values, crate::specs::CriticalLoads::load_numbers, crate::specs::CriticalLoads::loads_of, site::specs::Refusal::values_if, site::specs::ByCheck::answer_if))]
+#[tactic(auto, unfolding(crate::specs::CriticalLoads::loads_answer, crate::specs::CriticalLoads::loads_values, crate::specs::CriticalLoads::load_numbers, crate::specs::CriticalLoads::loads_of, site::specs::Refusal::values_if, site::specs::Refusal::and_then))]
 pub fn critical_loads(site: Site) -> Result<Loads, Rule>
     ensures answer { result ≡ loads_answer site }
     ensures values { loads_values result ≡ values_if (site_rule site) (cl_max_s (terms_of site) ∷ cl_min_n (terms_of site) ∷ cl_max_n (terms_of site) ∷ cl_nut_n (terms_of site) ∷ []) }

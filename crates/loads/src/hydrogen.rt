@@ -87,7 +87,7 @@ fn level_rule(q: u16, k: u16, ceiling: u16) -> Result<(), Rule>
 }
 
 // The greatest allowed level for percolation q, gibbsite constant k, aluminium limit and hydrogen ceiling, and how many levels were compared.
-#[tactic(auto, using(crate::proofs::LevelAnswers::level_passed, crate::proofs::SearchLaws::few_compared), unfolding(crate::specs::Search::level_answer, crate::specs::Search::level_values, crate::specs::Search::searched_of, crate::specs::Search::searched_numbers, site::specs::Refusal::values_if, site::specs::ByCheck::answer_if))]
+#[tactic(auto, using(crate::proofs::LevelAnswers::level_passed, crate::proofs::SearchLaws::few_compared), unfolding(crate::specs::Search::level_answer, crate::specs::Search::level_values, crate::specs::Search::searched_of, crate::specs::Search::searched_numbers, site::specs::Refusal::values_if, site::specs::Refusal::and_then))]
 pub fn greatest_level(q: u16, k: u16, limit: u64, ceiling: u16) -> Result<Searched, Rule>
     ensures answer { result ≡ level_answer q k limit ceiling }
     ensures values { level_values result ≡ values_if (level_rule q k ceiling) (level_of q k limit ceiling ∷ length (compared_of q k limit ceiling) ∷ []) }

@@ -5,29 +5,28 @@ use mathlib.Core.Bool.{Bool, true, false}
 use lib.Dec.{leb}
 use borrow.Author.Tests.{le-leb, lt-leb, leb-true, leb-false}
 use Rattle.std.specs.Prelude.{Ok, Err}
-use Rattle.site.specs.Refusal.{and_then, Checked}
+use Rattle.site.specs.Refusal.{and_then, Checked, unless}
 use Rattle.site.specs.declared.Rule.{Rule}
 use Rattle.site.specs.declared.Rule.TheVariants.{BufferShort}
 use Rattle.site.specs.declared.Refusal.{Refusal}
 use Rattle.site.specs.Choice.{pick}
 use Rattle.site.proofs.Passing.{pass_then, both_passed}
-use Rattle.site.specs.ByCheck.{answer_if}
 use Rattle.output.specs.Output.{room_rule, output_rule, write_answer, written_numbers, output_numbers}
 
 -- the answer says what the rule says
 pub answer_numbers : (c : Checked) (n : ℕ) → written_numbers (write_answer c n) ≡ output_numbers c n
-unfolding written_numbers answer_if output_numbers
+unfolding written_numbers unless output_numbers
 answer_numbers (Ok tt) n = refl
 answer_numbers (Err r) n = refl
 
 -- its count is that of the output, and a refusal's offset is 0
 pub count_is : (c : Checked) (n : ℕ) {k : ℕ} → write_answer c n ≡ Ok k → k ≡ n
-unfolding answer_if
+unfolding unless
 count_is (Ok tt) n e = cc
 count_is (Err r) n e = cc
 
 pub refused_at_0 : (c : Checked) (n : ℕ) {r : Refusal} → write_answer c n ≡ Err r → r.at ≡ 0
-unfolding answer_if
+unfolding unless
 refused_at_0 (Ok tt) n e = cc
 refused_at_0 (Err r) n e = cc
 

@@ -1,9 +1,8 @@
 -- Output into a lent buffer: rule 11, what the buffer then holds, and the answer with its numbers.
 use Rattle.std.specs.Prelude.{ℕ, List, ◌++◌, leb, length, drop, Result, Ok, Err}
 use Rattle.site.specs.Choice.{pick}
-use Rattle.site.specs.Refusal.{rule_number, and_then, Checked}
+use Rattle.site.specs.Refusal.{rule_number, and_then, Checked, unless}
 use Rattle.site.specs.declared.Rule.TheVariants.{BufferShort}
-use Rattle.site.specs.ByCheck.{answer_if}
 use Rattle.site.specs.declared.Refusal.{Refusal}
 
 -- rule 11, where `needed` elements are to stand in a buffer of `room`
@@ -25,7 +24,7 @@ Written = Result ℕ Refusal
 
 -- the same by what the output can break: the rule that is broken, at 0
 abbrev pub write_answer : Checked → ℕ → Written
-write_answer c n = answer_if Ok (λ rule. Err (record { rule = rule; at = 0 })) c n
+write_answer c n = unless c 0 (Ok n)
 
 -- an answer in 01's numbers: that of the refusal, or 0; then how many elements were written, or the offset
 unfoldable pub written_numbers : Written → ℕ × ℕ

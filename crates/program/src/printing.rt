@@ -11,7 +11,7 @@ use crate::ReadState;
 use listing::report;
 
 // The report of a file, with the number of bytes to print: none where the buffer is too short.
-#[tactic(auto, unfolding(site::specs::ByCheck::answer_if, output::specs::Output::held_after, output::specs::Output::output_count))]
+#[tactic(auto, unfolding(site::specs::Refusal::unless, output::specs::Output::held_after, output::specs::Output::output_count))]
 fn shown(file: &[u8], out: &mut [u8]) -> usize
     ensures inside { (result ≤ length out.new) × (result ≡ length (take result out.new)) }
     ensures answer { result ≡ shown_length (report_of file.now) out.old }

@@ -9,7 +9,7 @@ use Rattle.field.specs.Field.{store, entries_bytes, blank_site, value}
 use Rattle.field.specs.Kind.{field_rule}
 use Rattle.site.specs.Values.{length_permitted, value_rule, stand_rule, between, name_byte, entry_ranged, rising_from, shares_of}
 use Rattle.record.specs.FieldParts.{field_of}
-use Rattle.record.specs.Result.{unless}
+use Rattle.site.specs.Refusal.{unless}
 use Rattle.record.specs.Fields.{head_rule, walk_fields, encode_fields, encode_as}
 use Rattle.record.specs.Records.{outer_rule, ending, record_in, only_one, single}
 use Rattle.record.specs.Outer.{site_at, read_record}

@@ -4,7 +4,7 @@ use mathlib.Core.List.{List, [], ◌∷◌, ◌++◌, map}
 use Prim.Native.Nat.{ℕ}
 use lib.ListN.{take, drop}
 use Rattle.site.specs.ExampleSite.{a1}
-use Rattle.site.specs.Refusal.{and_then}
+use Rattle.site.specs.Refusal.{and_then, unless}
 use Rattle.site.specs.Check.{fields_rule, site_rule}
 use Rattle.site.specs.Bytes.{tabulate, entry_at}
 use Rattle.site.specs.Values.{length_permitted, item_count, count_rule, value_rule, stand_rule, between, name_byte, entry_ranged, rising_from, shares_of}
@@ -12,7 +12,7 @@ use Rattle.field.specs.Field.{store, entries_bytes, blank_site, value}
 use Rattle.field.specs.Kind.{field_rule}
 use Rattle.output.specs.Output.{room_rule, output_rule, output_numbers}
 use Rattle.record.specs.FieldParts.{field_of}
-use Rattle.record.specs.Result.{result_numbers, unless}
+use Rattle.record.specs.Result.{result_numbers}
 use Rattle.record.specs.Fields.{head_rule, walk_fields, encode_fields, encode_as}
 use Rattle.record.specs.Records.{outer_rule, ending, record_in, only_one, single}
 use Rattle.record.specs.Outer.{site_at, read_record}

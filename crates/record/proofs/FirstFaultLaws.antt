@@ -11,12 +11,11 @@ use lib.Dec.{leb, eqb}
 use lib.ListN.{get_or, length, length-take, length-drop}
 use Rattle.std.specs.Prelude.{Result, Ok, Err}
 use Rattle.site.specs.Choice.{pick}
-use Rattle.site.specs.Refusal.{and_then, Checked}
+use Rattle.site.specs.Refusal.{and_then, Checked, unless}
 use Rattle.site.specs.declared.Refusal.{Refusal}
 use Rattle.site.specs.declared.Rule.{Rule}
 use Rattle.site.specs.declared.Rule.TheVariants.{InnerTag, TooMany, NoBytes}
 use Rattle.field.specs.Kind.{Kind, field_rule}
-use Rattle.record.specs.Result.{unless}
 use Rattle.record.specs.FieldParts.{stated_len, value_at, rest_at}
 use Rattle.record.specs.Fields.{head_rule, walk_fields, fields_in}
 use Rattle.record.specs.Records.{most_record, outer_rule, ending, record_in}

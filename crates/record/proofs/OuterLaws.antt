@@ -10,7 +10,7 @@ use Rattle.site.specs.declared.Refusal.{Refusal}
 use Rattle.site.specs.declared.Rule.{Rule}
 use Rattle.site.specs.declared.Rule.TheVariants.{OuterCut}
 use Rattle.field.specs.Field.{site_kind}
-use Rattle.record.specs.Result.{unless}
+use Rattle.site.specs.Refusal.{unless}
 use Rattle.record.specs.FieldParts.{stated_len}
 use Rattle.record.specs.Fields.{fields_in}
 use Rattle.record.specs.Records.{outer_rule, ending, record_in}

@@ -13,18 +13,18 @@ use Rattle.std.specs.Prelude.{Result, Ok, Err}
 use Rattle.site.specs.declared.Refusal.{Refusal}
 use Rattle.site.specs.declared.Rule.{Rule}
 use Rattle.site.specs.declared.Rule.TheVariants.{OuterCut, OuterTag}
-use Rattle.site.specs.Refusal.{Checked}
+use Rattle.site.specs.Refusal.{Checked, unless}
 use Rattle.site.specs.Choice.{pick}
 use Rattle.site.proofs.Tests.{le_or_lt}
 use Rattle.site.proofs.Passing.{pass_else, pass_then}
-use Rattle.record.specs.Result.{unless}
 use Rattle.record.specs.FieldParts.{field_of, stated_len, value_at}
 use Rattle.field.specs.Kind.{Kind}
 use Rattle.record.specs.Fields.{fields_in, encode_fields, encode_as}
 use Rattle.record.specs.Records.{most_record, outer_rule, ending, record_in, only_one, single}
 use Rattle.field.specs.Clean.{AllBytes}
 use Rattle.record.proofs.FieldBytes.{stated, field_length, field_first, field_value, value_bytes, field_front, length_whole}
-use Rattle.record.proofs.ResultLaws.{unless_ok, ending_ok}
+use Rattle.site.proofs.ByCheckLaws.{unless_ok}
+use Rattle.record.proofs.ResultLaws.{ending_ok}
 
 pub drop-take : (n m : ℕ) (l : List ℕ) → drop n (take m l) ≡ take (m - n) (drop n l)
 drop-take zero m l = let e : m ≡ m - zero = omega arith in ap (λ (k : ℕ). take k l) e

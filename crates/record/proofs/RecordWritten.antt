@@ -5,11 +5,10 @@ use Prim.Native.Nat.{ℕ, ◌≤◌, ◌<◌}
 use lib.ListN.{length, take, drop}
 use lib.Seq.{take_at}
 use Rattle.std.specs.Prelude.{Ok, Err, IfOk}
-use Rattle.site.specs.ByCheck.{answer_if}
 use Rattle.site.specs.declared.Site.{Site}
 use Rattle.site.specs.declared.Rule.{Rule}
 use Rattle.site.specs.declared.Rule.TheVariants.{BufferShort}
-use Rattle.site.specs.Refusal.{Checked}
+use Rattle.site.specs.Refusal.{Checked, unless}
 use Rattle.site.specs.Check.{site_rule}
 use Rattle.site.proofs.Passing.{both_passed}
 use Rattle.record.specs.Outer.{read_record}
@@ -34,7 +33,7 @@ module _ (s : Site) (z : Sized s) (old : List ℕ) where
   }
 
   is_read_again : (c : Checked) → rule ≡ c → IfOk (write_answer c (length (encode s))) (λ n. read_record (take n (held_after c (encode s) old)) ≡ Ok (clean s))
-  unfolding output_rule answer_if held_after
+  unfolding output_rule unless held_after
   is_read_again (Ok tt) e = rw (take_at (encode s) (drop (length (encode s)) old) (length (encode s)) refl) (read_written s z (both_passed _ _ e).0)
   is_read_again (Err r) e = tt
 
@@ -42,19 +41,19 @@ module _ (s : Site) (z : Sized s) (old : List ℕ) where
   promised w new a e = record { answer = a; buffer = e; numbers = ap written_numbers a ∙ answer_numbers rule (length (encode s)); read_again = rw (a, e) (is_read_again rule refl) }
 
   pub write_broken : (r : Rule) → site_rule s ≡ Err r → Promises (Err (record { rule = r; at = 0 })) old
-  unfolding answer_if held_after
+  unfolding unless held_after
   write_broken r e =
       let q : rule ≡ Err r = output_broken _ _ (site_rule s) r e in
       promised _ old (rw q) (rw q)
 
   pub write_short : site_rule s ≡ Ok tt → length old < length (encode s) → Promises (Err (record { rule = BufferShort; at = 0 })) old
-  unfolding answer_if held_after
+  unfolding unless held_after
   write_short e h =
       let q : rule ≡ Err BufferShort = output_short _ _ (site_rule s) e h in
       promised _ old (rw q) (rw q)
 
   pub write_whole : {n : ℕ} {new : List ℕ} → site_rule s ≡ Ok tt → length (encode s) ≤ length old → Wrote old 0 (encode s) new n → Promises (Ok n) new
-  unfolding answer_if held_after
+  unfolding unless held_after
   write_whole {n} {new} e h w =
       let q : rule ≡ (Ok tt) = output_whole _ _ (site_rule s) e h in
       promised (Ok n) new (rw q (ap Ok (in_front w h).0)) (rw q (in_front w h).1)

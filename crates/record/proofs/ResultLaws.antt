@@ -3,16 +3,9 @@ use mathlib.Core.Path.{◌≡◌, refl}
 use Prim.Native.Nat.{ℕ}
 use Rattle.std.specs.Prelude.{Result, Ok, Err}
 use Rattle.site.specs.declared.Refusal.{Refusal}
-use Rattle.site.specs.Refusal.{Checked}
-use Rattle.record.specs.Result.{unless}
 use Rattle.record.specs.Records.{ending}
 
 module _ {A : Type 0} where
-  pub unless_ok : (c : Checked) (at : ℕ) (q : Result A Refusal) {x : A} → unless c at q ≡ Ok x → (c ≡ Ok tt) × (q ≡ Ok x)
-  unfolding unless
-  unless_ok (Ok tt) at q e = (refl, e)
-  unless_ok (Err k) at q e = cc
-
   pub ending_ok : (end : ℕ) (q : Result A Refusal) {x : A × ℕ} → ending end q ≡ Ok x → (q ≡ Ok x.0) × (x.1 ≡ end)
   unfolding ending
   ending_ok end (Ok y) {x} e = let p : (y, end) ≡ x = cc in (rw (← p), rw (← p))

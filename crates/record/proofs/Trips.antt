@@ -8,7 +8,7 @@ use lib.Dec.{ltb}
 use borrow.Author.Tests.{ltb-true}
 use Rattle.std.specs.Prelude.{Ok}
 use Rattle.site.proofs.Tests.{and_l, and_r}
-use Rattle.record.specs.Result.{unless}
+use Rattle.site.specs.Refusal.{unless}
 use Rattle.record.specs.FieldParts.{value_at, rest_at}
 use Rattle.record.specs.Fields.{walk_fields, encode_fields}
 use Rattle.field.specs.Clean.{AllBytes}

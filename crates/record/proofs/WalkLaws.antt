@@ -14,17 +14,16 @@ use Rattle.site.specs.declared.Site.{Site}
 use Rattle.site.specs.declared.Refusal.{Refusal}
 use Rattle.site.specs.declared.Rule.{Rule}
 use Rattle.site.specs.declared.Rule.TheVariants.{InnerCut, InnerTag}
-use Rattle.site.specs.Refusal.{Checked}
+use Rattle.site.specs.Refusal.{Checked, unless}
 use Rattle.site.specs.Choice.{pick}
 use Rattle.field.specs.Field.{taken, site_kind}
 use Rattle.field.proofs.TakenLaws.{taken_ok, taken_err}
 use Rattle.site.proofs.Passing.{pass_else, pass_then}
-use Rattle.record.specs.Result.{unless}
 use Rattle.record.specs.FieldParts.{stated_len, value_at, rest_at, field_of}
 use Rattle.field.specs.Kind.{Kind, field_rule}
 use Rattle.record.specs.Fields.{head_rule, walk_fields}
 use Rattle.record.proofs.FieldBytes.{stated, field_length, field_tag}
-use Rattle.record.proofs.ResultLaws.{unless_ok}
+use Rattle.site.proofs.ByCheckLaws.{unless_ok}
 use Rattle.record.proofs.Tags.{tags_from, tags_more, tags_none}
 
 -- ---- the head of a field

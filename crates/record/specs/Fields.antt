@@ -2,10 +2,9 @@
 use Rattle.std.specs.Prelude.{ℕ, ◌+◌, ◌-◌, List, [], ◌∷◌, ◌++◌, ltb, eqb, get_or, length, Result, Ok, Err}
 use Rattle.site.specs.declared.Rule.TheVariants.{InnerCut, InnerTag}
 use Rattle.site.specs.declared.Refusal.{Refusal}
-use Rattle.site.specs.Refusal.{Checked}
+use Rattle.site.specs.Refusal.{Checked, unless}
 use Rattle.site.specs.Choice.{pick}
 use Rattle.field.specs.Kind.{Kind, field_rule}
-use Rattle.record.specs.Result.{unless}
 use Rattle.record.specs.FieldParts.{field_of, stated_len, value_at, rest_at}
 
 -- rules 6, 5, 6 and 5, in this order, at bytes bs where the field t is due

@@ -2,9 +2,8 @@
 use Rattle.std.specs.Prelude.{ℕ, ◌+◌, ◌-◌, Bool, List, ltb, eqb, get_or, length, Result, Ok, Err}
 use Rattle.site.specs.declared.Rule.TheVariants.{NoBytes, OuterCut, OuterTag, TooMany}
 use Rattle.site.specs.declared.Refusal.{Refusal}
-use Rattle.site.specs.Refusal.{Checked}
+use Rattle.site.specs.Refusal.{Checked, unless}
 use Rattle.site.specs.Choice.{pick}
-use Rattle.record.specs.Result.{unless}
 use Rattle.record.specs.FieldParts.{stated_len, value_at}
 use Rattle.field.specs.Kind.{Kind}
 use Rattle.record.specs.Fields.{fields_in}

@@ -9,10 +9,10 @@ use Rattle.std.proofs.lemmas.Bool.Decides.{nat_tests}
 use Rattle.std.specs.Prelude.{sum_by, Result, Ok, Err}
 use Rattle.site.specs.Ranges.{deposition_range}
 use Rattle.site.specs.declared.Refusal.{Refusal}
-use Rattle.site.specs.Refusal.{Checked}
+use Rattle.site.specs.Refusal.{Checked, unless}
 use Rattle.loads.specs.Rounding.{up}
 use Rattle.sampler.specs.MonthRules.{month_rule, sulphur_of, nitrogen_of}
-use Rattle.sampler.specs.YearPair.{too_large, pair_of, unless_at, months_checked, year_of}
+use Rattle.sampler.specs.YearPair.{too_large, pair_of, months_checked, year_of}
 use Rattle.sampler.specs.FirstMonth.{Pass, ByMonth, ByYear, IsPair}
 use Rattle.sampler.specs.declared.Month.{Month}
 use Rattle.sampler.specs.declared.Pair.{Pair}
@@ -39,7 +39,7 @@ ends : (i : ℕ) (ms : List Month) (y : Result Pair Refusal) → Ends i ms y (mo
 ends i [] y = behind (none_before []) refl
 ends i (m ∷ ms) y = go (month_rule m) refl (ends (suc i) ms y)
   where
-    go : (c : Checked) → month_rule m ≡ c → Ends (suc i) ms y (months_checked (suc i) ms y) → Ends i (m ∷ ms) y (unless_at c i (months_checked (suc i) ms y))
+    go : (c : Checked) → month_rule m ≡ c → Ends (suc i) ms y (months_checked (suc i) ms y) → Ends i (m ∷ ms) y (unless c i (months_checked (suc i) ms y))
     go (Ok tt) e rest = later i m ms y (months_checked (suc i) ms y) e rest
     go (Err rule) e rest =
         let same : i + 0 ≡ i = omega arith in

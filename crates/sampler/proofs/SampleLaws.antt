@@ -7,8 +7,7 @@ use lib.ListN.{length}
 use native.Mathlib.Omega.{arith}
 use Rattle.std.specs.Prelude.{Result, Ok, Err}
 use Rattle.site.specs.Check.{fields_rule, site_rule}
-use Rattle.site.specs.ByCheck.{answer_if}
-use Rattle.site.specs.Refusal.{values_if, Checked}
+use Rattle.site.specs.Refusal.{values_if, Checked, unless}
 use Rattle.site.specs.Values.{item_count, count_rule, value_rule}
 use Rattle.site.specs.declared.Site.{Site}
 use Rattle.site.specs.declared.Refusal.{Refusal}
@@ -22,7 +21,7 @@ use Rattle.site.specs.declared.Rule.{Rule}
 use Rattle.judgement.proofs.JudgementAnswers.{judged_passing, judged_says, judged_values_lem, judgement_given}
 use Rattle.sampler.specs.YearPair.{year_of}
 use Rattle.sampler.specs.FirstMonth.{ByMonth, ByYear}
-use Rattle.sampler.specs.SampleAnswers.{with_pair, keyed, year_answer, checked_first, sample_answer, ByKey, sample_values, year_values}
+use Rattle.sampler.specs.SampleAnswers.{with_pair, keyed, year_answer, sample_answer, ByKey, sample_values, year_values}
 use Rattle.sampler.specs.declared.Month.{Month}
 use Rattle.sampler.specs.declared.Pair.{Pair}
 use Rattle.sampler.specs.declared.Sampled.{Sampled}
@@ -56,11 +55,11 @@ module _ (s : Site) (p : Pair) where
   keyed_answer = keyed p (judgement_answer (with_pair s p))
 
   -- the judgement's own check is that of the site
-  pub keyed_checked : checked_first (site_rule s) keyed_answer ≡ keyed_answer
-  unfolding answer_if keyed judgement_answer
+  pub keyed_checked : unless (site_rule s) 0 keyed_answer ≡ keyed_answer
+  unfolding unless keyed judgement_answer
   keyed_checked = go (site_rule s) pair_rule
     where
-      go : (c : Checked) → site_rule (with_pair s p) ≡ c → checked_first c keyed_answer ≡ keyed_answer
+      go : (c : Checked) → site_rule (with_pair s p) ≡ c → unless c 0 keyed_answer ≡ keyed_answer
       go (Ok tt) e = refl
       go (Err r) e = rw e
 
@@ -86,10 +85,10 @@ module _ (s : Site) (p : Pair) where
 module _ (s : Site) (ms : List Month) where
   -- what an answer that is given says
   pub sample_given : (p : Sampled) → sample_answer s ms ≡ Ok p → (site_rule s ≡ Ok tt) × ByKey s ms p
-  unfolding sample_answer answer_if year_answer
+  unfolding sample_answer unless year_answer
   sample_given p = go (site_rule s) refl (year_of ms) refl
     where
-      go : (c : Checked) → site_rule s ≡ c → (y : Result Pair Refusal) → year_of ms ≡ y → checked_first c (year_answer s y) ≡ Ok p → (site_rule s ≡ Ok tt) × ByKey s ms p
+      go : (c : Checked) → site_rule s ≡ c → (y : Result Pair Refusal) → year_of ms ≡ y → unless c 0 (year_answer s y) ≡ Ok p → (site_rule s ≡ Ok tt) × ByKey s ms p
       go (Err r) e y f q = absurd (cc)
       go (Ok tt) e (Err r) f q = absurd (cc)
       go (Ok tt) e (Ok y) f q =
@@ -104,10 +103,10 @@ module _ (s : Site) (ms : List Month) where
       rw j (pair_tells s p.pair g.0)
 
   answer_values : sample_values (sample_answer s ms) ≡ values_if (site_rule s) (year_values (terms_of s) (year_of ms))
-  unfolding sample_answer answer_if year_answer values_if year_values sample_values
+  unfolding sample_answer unless year_answer values_if year_values sample_values
   answer_values = go (site_rule s) refl (year_of ms)
     where
-      go : (c : Checked) → site_rule s ≡ c → (y : Result Pair Refusal) → sample_values (checked_first c (year_answer s y)) ≡ values_if c (year_values (terms_of s) y)
+      go : (c : Checked) → site_rule s ≡ c → (y : Result Pair Refusal) → sample_values (unless c 0 (year_answer s y)) ≡ values_if c (year_values (terms_of s) y)
       go (Err r) e y = refl
       go (Ok tt) e (Err r) = refl
       go (Ok tt) e (Ok y) = keyed-values s y e
@@ -120,15 +119,10 @@ module _ (s : Site) (ms : List Month) where
       × ((p : Sampled) → r ≡ Ok p → Tells within over (verdict_word p.judged.verdict) (terms_of s) p.pair.sulphur p.pair.nitrogen)
   sample_promise r is = (is, ap sample_values is ∙ answer_values, λ p q. (sample_given p (sym is ∙ q)).1, λ p q. says p (sym is ∙ q))
 
--- ---- what an answer says of the check before it, and where it is refused
+-- ---- where an answer is refused
 
-pub checked_given : (c : Checked) (a : Result Sampled Refusal) (p : Sampled) → checked_first c a ≡ Ok p → (c ≡ Ok tt) × (a ≡ Ok p)
-unfolding answer_if
-checked_given (Ok tt) a p e = (refl, e)
-checked_given (Err r) a p e = absurd (cc)
-
-pub checked_at : (c : Checked) (a : Result Sampled Refusal) {most : ℕ} → ((r : Refusal) → a ≡ Err r → r.at ≤ most) → (r : Refusal) → checked_first c a ≡ Err r → r.at ≤ most
-unfolding answer_if
+pub checked_at : (c : Checked) (a : Result Sampled Refusal) {most : ℕ} → ((r : Refusal) → a ≡ Err r → r.at ≤ most) → (r : Refusal) → unless c 0 a ≡ Err r → r.at ≤ most
+unfolding unless
 checked_at (Ok tt) a h r e = h r e
 checked_at (Err rule) a h r e = let z : r.at ≡ 0 = cc in omega arith
 

@@ -1,8 +1,7 @@
 -- What the call answers: the site's checks come first, and the pair of the year is judged as when entered by key.
 use Rattle.std.specs.Prelude.{ℕ, ◌≡◌, List, [], ◌∷◌, Result, Ok, Err}
 use Rattle.site.specs.Check.{site_rule}
-use Rattle.site.specs.ByCheck.{answer_if}
-use Rattle.site.specs.Refusal.{rule_number, Checked}
+use Rattle.site.specs.Refusal.{rule_number, Checked, unless}
 use Rattle.site.specs.declared.Site.{Site}
 use Rattle.site.specs.declared.Refusal.{Refusal}
 use Rattle.loads.specs.Terms.{Terms}
@@ -28,12 +27,9 @@ unfoldable pub year_answer : Site → Result Pair Refusal → Result Sampled Ref
 year_answer s (Ok p) = keyed p (judgement_answer (with_pair s p))
 year_answer s (Err refusal) = Err refusal
 
--- a check of the site before another answer
-abbrev pub checked_first : Checked → Result Sampled Refusal → Result Sampled Refusal
-checked_first c a = answer_if (λ (x : Result Sampled Refusal). x) (λ rule. Err (record { rule = rule; at = 0 })) c a
-
 unfoldable pub sample_answer : Site → List Month → Result Sampled Refusal
-sample_answer s ms = checked_first (site_rule s) (year_answer s (year_of ms))
+-- the checks of the site come first
+sample_answer s ms = unless (site_rule s) 0 (year_answer s (year_of ms))
 
 -- what is given: the pair of the months, and the judgement of the same site with this pair put into its field 0F
 pub record ByKey (s : Site) (ms : List Month) (p : Sampled) : Type 0 where

@@ -22,13 +22,9 @@ abbrev pub divided_pair : (sulphur nitrogen : ℕ) → Result Pair Refusal
 divided_pair s n = pair_of (up s 1600) (up n 1400)
 
 -- the first month that breaks a rule gives the answer, with its index, counted from i; else y
-abbrev pub unless_at : Checked → ℕ → Result Pair Refusal → Result Pair Refusal
-unless_at (Ok tt) i y = y
-unless_at (Err rule) i y = Err (record { rule = rule; at = i })
-
 abbrev pub months_checked : ℕ → List Month → Result Pair Refusal → Result Pair Refusal
 months_checked i [] y = y
-months_checked i (m ∷ ms) y = unless_at (month_rule m) i (months_checked (suc i) ms y)
+months_checked i (m ∷ ms) y = unless (month_rule m) i (months_checked (suc i) ms y)
 
 unfoldable pub year_of : List Month → Result Pair Refusal
 year_of ms = months_checked 0 ms (divided_pair (sum_by sulphur_of ms) (sum_by nitrogen_of ms))

@@ -1,13 +1,13 @@
 // The pair of the sampler's months, judged as when entered by key.
 ghost use Rattle.std.specs.Prelude.{◌≡◌};
 ghost use Rattle.site.specs.Check.{site_rule};
-ghost use Rattle.site.specs.Refusal.{values_if};
+ghost use Rattle.site.specs.Refusal.{values_if, unless};
 ghost use Rattle.loads.specs.SiteTerms.{terms_of};
 ghost use Rattle.judgement.specs.Answers.{judgement_answer};
 ghost use Rattle.judgement.specs.Balance.{Tells};
 ghost use Rattle.judgement.specs.Verdicts.{verdict_word, within, over};
 ghost use Rattle.sampler.specs.YearPair.{year_of};
-ghost use Rattle.sampler.specs.SampleAnswers.{with_pair, keyed, checked_first, sample_answer, ByKey, sample_values, year_values};
+ghost use Rattle.sampler.specs.SampleAnswers.{with_pair, keyed, sample_answer, ByKey, sample_values, year_values};
 
 use crate::years::year_pair;
 use crate::{Month, Pair, Sampled};
@@ -35,9 +35,9 @@ fn judge_pair(site: Site, pair: Pair) -> Result<Sampled, Refusal>
 }
 
 // A refusal that comes after the checks of the site.
-#[tactic(auto, unfolding(site::specs::ByCheck::answer_if))]
+#[tactic(auto, unfolding(site::specs::Refusal::unless))]
 pub fn refuse_checked(site: Site, refusal: Refusal) -> Result<Sampled, Refusal>
-    ensures { result ≡ checked_first (site_rule site) (Err refusal) }
+    ensures { result ≡ unless (site_rule site) 0 (Err refusal) }
 {
     check_site(site)?;
     Err(refusal)

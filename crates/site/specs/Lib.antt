@@ -3,7 +3,6 @@ pub mod Refusal
 pub mod Ranges
 pub mod Values
 pub mod Check
-pub mod ByCheck
 pub mod Bytes
 pub mod Bounds
 pub mod OneSite

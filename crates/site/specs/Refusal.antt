@@ -1,6 +1,7 @@
 -- The refusals by number: 1 to 11 of document 01, "Where each check stands", then those of document 02.
 use Rattle.std.specs.Prelude.{ℕ, List, [], ◌∷◌, Result, Ok, Err}
 use Rattle.site.specs.declared.Rule.{Rule}
+use Rattle.site.specs.declared.Refusal.{Refusal}
 use Rattle.site.specs.declared.Rule.TheVariants.{NoBytes, OuterCut, OuterTag, TooMany, InnerCut, InnerTag, BadLength, OutOfRange, NotRising, SharesNotWhole, BufferShort, BadConcentration, NoReading, PairTooLarge}
 
 abbrev pub rule_number : Rule → ℕ
@@ -40,6 +41,11 @@ pub data Numbered : Checked → ℕ → Type 0 where
 unfoldable pub and_then : {A : Type 0} → Checked → Result A Rule → Result A Rule
 and_then (Ok tt) x = x
 and_then (Err r) x = Err r
+
+-- the same for an answer that says where: x, unless a rule is broken at `at`
+unfoldable pub unless : {A : Type 0} → Checked → ℕ → Result A Refusal → Result A Refusal
+unless (Ok tt) at x = x
+unless (Err r) at x = Err (record { rule = r; at = at })
 
 -- the values of a refusal as it is answered: its number, and offset 0
 abbrev pub refusal_values : Rule → List ℕ

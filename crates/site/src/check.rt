@@ -9,8 +9,8 @@ use crate::value::value_rule;
 use crate::{Rule, Site};
 
 #[tactic(auto, unfolding(crate::specs::Refusal::and_then))]
-fn check_field(site: Site, tag: u8) -> Result<(), Rule>
-    ensures { result ≡ and_then (count_rule tag site) (value_rule tag site) }
+fn check_field(site: &Site, tag: u8) -> Result<(), Rule>
+    ensures { result ≡ and_then (count_rule tag site.now) (value_rule tag site.now) }
 {
     count_rule(site, tag)?;
     value_rule(site, tag)
@@ -22,19 +22,19 @@ pub fn check_site(site: Site) -> Result<(), Rule>
     ensures answer { result ≡ site_rule site }
     ensures number { Numbered (site_rule site) (checked_number result) }
 {
-    check_field(site, 1)?;
-    check_field(site, 2)?;
-    check_field(site, 3)?;
-    check_field(site, 4)?;
-    check_field(site, 5)?;
-    check_field(site, 6)?;
-    check_field(site, 7)?;
-    check_field(site, 8)?;
-    check_field(site, 9)?;
-    check_field(site, 10)?;
-    check_field(site, 11)?;
-    check_field(site, 12)?;
-    check_field(site, 13)?;
-    check_field(site, 14)?;
-    check_field(site, 15)
+    check_field(&site, 1)?;
+    check_field(&site, 2)?;
+    check_field(&site, 3)?;
+    check_field(&site, 4)?;
+    check_field(&site, 5)?;
+    check_field(&site, 6)?;
+    check_field(&site, 7)?;
+    check_field(&site, 8)?;
+    check_field(&site, 9)?;
+    check_field(&site, 10)?;
+    check_field(&site, 11)?;
+    check_field(&site, 12)?;
+    check_field(&site, 13)?;
+    check_field(&site, 14)?;
+    check_field(&site, 15)
 }

@@ -52,8 +52,8 @@ pub fn length_permitted(tag: u8, n: usize) -> bool
 }
 
 #[tactic(auto, unfolding(crate::specs::Values::item_count))]
-fn item_count(site: Site, tag: u8) -> usize
-    ensures { result ≡ item_count tag site }
+fn item_count(site: &Site, tag: u8) -> usize
+    ensures { result ≡ item_count tag site.now }
 {
     match tag {
         1 => usize::from(site.name.len),
@@ -63,8 +63,8 @@ fn item_count(site: Site, tag: u8) -> usize
 }
 
 #[tactic(auto, unfolding(crate::specs::Values::count_rule))]
-pub fn count_rule(site: Site, tag: u8) -> Result<(), Rule>
-    ensures { result ≡ count_rule tag site }
+pub fn count_rule(site: &Site, tag: u8) -> Result<(), Rule>
+    ensures { result ≡ count_rule tag site.now }
 {
     let n = item_count(site, tag);
     if n < 1 || items_of(tag).most < n {

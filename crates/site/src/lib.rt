@@ -17,7 +17,6 @@ pub use ranges::{
     AVAILABLE, BASE_DEPOSITION, CEILING, DEPTH, DRAINAGE, GIBBSITE, IMMOBILISATION, LEACHATE,
     PARENT, PERCOLATION, RATIO, Range, texture_rule,
 };
-pub use rules::rule_number;
 pub use value::value_rule;
 
 // An entry of the stand: species, share in percent, yield of a pure stand in kg dry matter per hectare and year.

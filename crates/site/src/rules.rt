@@ -21,9 +21,3 @@ impl From<Rule> for Refusal {
         Refusal { rule, at: 0 }
     }
 }
-
-pub fn rule_number(rule: Rule) -> u64
-    ensures { result ≡ rule_number rule }
-{
-    rule as u64
-}

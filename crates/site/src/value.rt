@@ -9,8 +9,8 @@ use crate::ranges::{
 use crate::{Rule, Site};
 
 #[tactic(auto, using(crate::proofs::MatchLaws::none_below, crate::proofs::FieldLaws::value_none), unfolding(crate::specs::Values::value_rule))]
-pub fn value_rule(site: Site, tag: u8) -> Result<(), Rule>
-    ensures { result ≡ value_rule tag site }
+pub fn value_rule(site: &Site, tag: u8) -> Result<(), Rule>
+    ensures { result ≡ value_rule tag site.now }
 {
     match tag {
         1 => site.name.check(),

@@ -6,9 +6,8 @@ use native.Mathlib.Omega.{arith}
 use lib.ListN.{length, take, drop}
 use lib.Seq.{take-append_seam}
 use Rattle.std.specs.Prelude.{Ok, Err}
-use Rattle.site.specs.ByCheck.{answer_if}
 use Rattle.site.specs.declared.Rule.TheVariants.{BufferShort}
-use Rattle.site.specs.Refusal.{Checked}
+use Rattle.site.specs.Refusal.{Checked, unless}
 use Rattle.output.specs.Writing.{Wrote}
 use Rattle.output.specs.Output.{Written, room_rule, held_after, written_numbers, held, held_numbers}
 use Rattle.output.proofs.WritingLaws.{in_front}
@@ -43,7 +42,7 @@ module _ {most : ℕ} {text d e : List ℕ} {r : Written} where
 
 -- where the text fits, how many bytes it has
 text_fits : (text d : List ℕ) → length text ≤ length d → text_answer text d ≡ Ok (length text)
-unfolding answer_if
+unfolding unless
 text_fits text d h = rw (room_enough (length text) (length d) h)
 
 -- the answer and the buffer give the rest
@@ -56,7 +55,7 @@ answered text d a b l = record {
 }
 
 pub text_refused : {most : ℕ} (text d : List ℕ) → length d < length text → length text ≤ most → AnsweredWithin most text d d (Err (record { rule = BufferShort; at = 0 }))
-unfolding answer_if held_after
+unfolding unless held_after
 text_refused text d h l = let short = room_short (length text) (length d) h in answered text d (rw short) (rw short) l
 
 pub text_printed : {most : ℕ} {d e : List ℕ} {r : ℕ} (text : List ℕ) → Wrote d 0 text e r → length text ≤ length d → length text ≤ most → AnsweredWithin most text d e (Ok r)
@@ -71,7 +70,7 @@ room_more h w = record { bounded = omega (arith, w.bounded); fits = λ m. w.fits
 
 -- where bytes were written, they are the text
 pub written : (text d e : List ℕ) (r : Written) → r ≡ text_answer text d → e ≡ held text d → (n : ℕ) → r ≡ Ok n → take n e ≡ text
-unfolding answer_if held_after
+unfolding unless held_after
 written text d e r a h n b = go (room_rule (length text) (length d)) refl
   where
     go : (t : Checked) → room_rule (length text) (length d) ≡ t → take n e ≡ text
