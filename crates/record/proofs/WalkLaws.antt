@@ -17,7 +17,7 @@ use Rattle.site.specs.declared.Rule.TheVariants.{InnerCut, InnerTag}
 use Rattle.site.specs.Refusal.{Checked, unless}
 use Rattle.site.specs.Choice.{pick}
 use Rattle.field.specs.Field.{taken, site_kind}
-use Rattle.field.proofs.TakenLaws.{taken_ok, taken_err}
+use Rattle.field.proofs.TakenLaws.{taken_ok}
 use Rattle.site.proofs.Passing.{pass_else, pass_then}
 use Rattle.record.specs.FieldParts.{stated_len, value_at, rest_at, field_of}
 use Rattle.field.specs.Kind.{Kind, field_rule}
@@ -99,22 +99,25 @@ module _ (s : Site) (bs : List ℕ) (at : ℕ) where
     walk_head r e = rw (tags_more t inside, e)
 
     module _ (ok : head_rule t bs ≡ Ok tt) (end : ℕ) (is_end : end ≡ 3 + stated_len bs) where
-      abbrev took : Result Site Rule
-      took = taken t (take (end - 3) (drop 3 bs)) s
+      -- the value as the code takes it
+      abbrev v : List ℕ
+      v = take (end - 3) (drop 3 bs)
 
-      took_value : took ≡ taken t (value_at bs) s
-      took_value = rw (is_end, add-sub_cancel_left)
+      value_is : v ≡ value_at bs
+      value_is = rw (is_end, add-sub_cancel_left)
 
-      pub walk_value : (r : Rule) → took ≡ Err r → walk_fields site_kind (tags_from t) s bs at ≡ Err (record { rule = r; at = at })
+      pub walk_value : (r : Rule) → field_rule site_kind t v s ≡ Err r → walk_fields site_kind (tags_from t) s bs at ≡ Err (record { rule = r; at = at })
       unfolding walk_fields unless
-      walk_value r e = rw (tags_more t inside, ok, taken_err t (value_at bs) s r (sym took_value ∙ e))
+      walk_value r e =
+          let broken = rw value_is at e in
+          rw (tags_more t inside, ok, broken)
 
-      pub walk_next : (x : Site) → took ≡ Ok x
-          → walk_fields site_kind (tags_from t) s bs at ≡ walk_fields site_kind (tags_from (t + 1)) x (take (length bs - end) (drop end bs)) (at + end)
+      pub walk_next : field_rule site_kind t v s ≡ Ok tt
+          → walk_fields site_kind (tags_from t) s bs at ≡ walk_fields site_kind (tags_from (t + 1)) (taken t v s) (take (length bs - end) (drop end bs)) (at + end)
       unfolding walk_fields unless
-      walk_next x e =
-          let p = taken_ok t (value_at bs) s x (sym took_value ∙ e) in
-          rw (tags_more t inside, ok, p.0, p.1, rest_all, is_end)
+      walk_next e =
+          let passed = rw value_is at e in
+          rw (value_is, taken_ok t (value_at bs) s passed, tags_more t inside, ok, passed, rest_all, is_end)
 
   -- the end: no tag is due
   pub walk_end : (t : ℕ) → 15 < t → walk_fields site_kind (tags_from t) s bs at ≡ pick (eqb (length bs) 0) (Ok s) (Err (record { rule = InnerTag; at = at }))

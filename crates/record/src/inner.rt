@@ -39,7 +39,7 @@ pub fn read_fields(part: &[u8], base: usize) -> Result<Site, Refusal>
     for tag in 1..=15 {
         head_rule(rest, tag).map_err(|rule| Refusal { rule, at })?;
         let end = 3 + stated_len(rest);
-        site = take_field(site, tag, &rest[3..end]).map_err(|rule| Refusal { rule, at })?;
+        take_field(&mut site, tag, &rest[3..end]).map_err(|rule| Refusal { rule, at })?;
         rest = &rest[end..];
         at += end;
     }

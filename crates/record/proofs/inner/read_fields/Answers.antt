@@ -7,8 +7,8 @@ use Rattle.record.proofs.inner.read_fields.Goals as goal
 pub loop-tag-preserved : goal.loop-tag-preserved
 loop-tag-preserved c =
     let ok : head_rule c.loop-tag.tag c.loop-tag.rest.now ≡ Ok tt = search rules in
-    let took : c.take_field.result ≡ Ok c.in_ok-site.site = search rules in
+    let took : c.take_field.result ≡ Ok tt = search rules in
     record {
       ends = simp (length-take, length-drop) (omega (arith, head_passed c.loop-tag.tag c.loop-tag.rest.now ok));
-      goes_on = c.loop-tag.invariant.goes_on ∙ walk_next _ _ _ _ c.loop-tag-test.true ok _ (omega arith) _ (rw c.take_field.ensures.answer at took);
+      goes_on = rw c.take_field.ensures.stored (c.loop-tag.invariant.goes_on ∙ walk_next _ _ _ _ c.loop-tag-test.true ok _ (omega arith) (rw c.take_field.ensures.answer at took));
     }
