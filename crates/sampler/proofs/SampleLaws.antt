@@ -7,7 +7,7 @@ use lib.ListN.{length}
 use native.Mathlib.Omega.{arith}
 use Rattle.std.specs.Prelude.{Result, Ok, Err}
 use Rattle.site.specs.Check.{fields_rule, site_rule}
-use Rattle.site.specs.Refusal.{values_if, Checked, unless}
+use Rattle.site.specs.Refusal.{values_if, Checked, and_then, unless}
 use Rattle.site.specs.Values.{item_count, count_rule, value_rule}
 use Rattle.site.specs.declared.Site.{Site}
 use Rattle.site.specs.declared.Refusal.{Refusal}
@@ -56,7 +56,7 @@ module _ (s : Site) (p : Pair) where
 
   -- the judgement's own check is that of the site
   pub keyed_checked : unless (site_rule s) 0 keyed_answer ≡ keyed_answer
-  unfolding unless keyed judgement_answer
+  unfolding unless and_then keyed judgement_answer
   keyed_checked = go (site_rule s) pair_rule
     where
       go : (c : Checked) → site_rule (with_pair s p) ≡ c → unless c 0 keyed_answer ≡ keyed_answer

@@ -4,7 +4,7 @@ use Rattle.site.specs.Choice.{pick}
 use Rattle.site.specs.Ranges.{deposition_range}
 use Rattle.site.specs.declared.Rule.TheVariants.{PairTooLarge}
 use Rattle.site.specs.declared.Refusal.{Refusal}
-use Rattle.site.specs.Refusal.{Checked}
+use Rattle.site.specs.Refusal.{unless}
 use Rattle.loads.specs.Rounding.{up}
 use Rattle.sampler.specs.MonthRules.{month_rule, sulphur_of, nitrogen_of}
 use Rattle.sampler.specs.declared.Month.{Month}
