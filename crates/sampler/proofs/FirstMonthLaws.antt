@@ -36,6 +36,7 @@ later i m ms y z p (at_month r f e) =
 later i m ms y z p (behind q e) = behind (one_more m ms (length ms) p q) e
 
 ends : (i : ℕ) (ms : List Month) (y : Result Pair Refusal) → Ends i ms y (months_checked i ms y)
+unfolding unless
 ends i [] y = behind (none_before []) refl
 ends i (m ∷ ms) y = go (month_rule m) refl (ends (suc i) ms y)
   where
