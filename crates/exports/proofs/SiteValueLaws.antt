@@ -86,7 +86,7 @@ check_promised c e = by_check_decodes c 0 (omega arith) e
 -- ---- numbers xs of a value whose check says c, put at the front of a slice that held `old`
 
 written_is : (c : Checked) (xs : List ℕ) (room : ℕ) → numbers_written (unless c 0 (Ok xs)) room ≡ write_answer (output_rule c (length xs) room) (length xs)
-unfolding numbers_written unless output_rule and_then unless
+unfolding numbers_written unless output_rule and_then
 written_is (Ok tt) xs room = refl
 written_is (Err r) xs room = refl
 
