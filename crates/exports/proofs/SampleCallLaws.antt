@@ -37,24 +37,23 @@ use Rattle.exports.specs.Numbers.{numbers_written, numbers_held}
 use Rattle.exports.specs.Layout.{site_in, value_length, value_check, site_load_numbers, mark_number, verdict_marked, judged_numbers, judgement_numbers}
 use Rattle.exports.specs.Samples.{months_length, sample_in, sampled_numbers, sampled, sample_written, sample_held, NumbersByKey}
 use Rattle.exports.proofs.CodeLaws.{decodes, count_below}
-use Rattle.exports.proofs.SiteValueLaws.{value_err, site_is, rule_is, value_passes, counted_passed, length_marked, mark_tells, mark_at}
+use Rattle.exports.proofs.SiteValueLaws.{wrong_length, as_site, value_passes, counted_passed, length_marked, mark_tells, mark_at}
 
 -- ---- the bytes
 
 module _ (b m : List ℕ) where
-  -- a site value that is refused
-  pub sample_refused : {r : Rule} → and_then (value_length b) (Ok (site_in b)) ≡ Err r → sample_in b m ≡ Err (record { rule = r; at = 0 })
+  pub site_length : (length b ≡ 50 → ⊥) → sample_in b m ≡ Err (record { rule = BadLength; at = 0 })
   unfolding sample_in unless
-  sample_refused e = rw (value_err b e)
+  site_length h = rw (wrong_length b h)
 
-  module _ {s : Site} (h : and_then (value_length b) (Ok (site_in b)) ≡ Ok s) where
-    pub months_refused : (length m ≡ 204 → ⊥) → sample_in b m ≡ unless (site_rule s) 0 (Err (record { rule = BadLength; at = 0 }))
-    unfolding sample_in months_length unless
-    months_refused n = rw (rule_is b h, ne_eqb (length m) 204 n)
+  -- the checks of the site come before the length of the months
+  pub months_length_lem : length b ≡ 50 → (length m ≡ 204 → ⊥) → sample_in b m ≡ unless (site_rule (site_in b)) 0 (Err (record { rule = BadLength; at = 0 }))
+  unfolding sample_in months_length unless
+  months_length_lem h n = rw (as_site b h, ne_eqb (length m) 204 n)
 
-    pub both_whole : length m ≡ 204 → sample_in b m ≡ sample_answer s (months_in m)
-    unfolding sample_in months_length sample_answer unless
-    both_whole n = rw (rule_is b h, eq-eqb (length m) 204 n, site_is b h)
+  pub both_whole : length b ≡ 50 → length m ≡ 204 → sample_in b m ≡ sample_answer (site_in b) (months_in m)
+  unfolding sample_in months_length sample_answer unless
+  both_whole h n = rw (as_site b h, eq-eqb (length m) 204 n)
 
   twelve : length (months_in m) ≡ 12
   unfolding tabulate

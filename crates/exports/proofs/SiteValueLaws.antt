@@ -4,11 +4,12 @@ use mathlib.Core.Path.{◌≡◌, refl, sym, ap, ◌∙◌}
 use mathlib.Core.List.{List, [], ◌∷◌, ◌++◌}
 use native.Mathlib.Omega.{arith}
 use lib.ListN.{length, drop, get_or}
+use borrow.Author.Tests.{eq-eqb, ne_eqb}
 use Rattle.std.specs.Prelude.{Result, Ok, Err}
 use Rattle.site.specs.Refusal.{and_then, Checked, unless}
 use Rattle.site.specs.Check.{site_rule}
 use Rattle.site.specs.declared.Refusal.{Refusal}
-use Rattle.site.specs.declared.Rule.{Rule}
+use Rattle.site.specs.declared.Rule.TheVariants.{BadLength}
 use Rattle.site.specs.declared.Site.{Site}
 use Rattle.site.proofs.Passing.{both_passed}
 use Rattle.loads.specs.SiteTerms.{terms_of}
@@ -33,51 +34,16 @@ use Rattle.exports.specs.Numbers.{numbers_written, numbers_held}
 use Rattle.exports.specs.Layout.{site_in, value_length, value_check, value_answer, site_load_numbers, mark_number, verdict_marked, judged_numbers, judgement_numbers}
 use Rattle.exports.proofs.CodeLaws.{count_below, by_check_decodes}
 
--- ---- the site in the bytes
-
--- what a check of the length says
-module _ (c : Checked) (s : Site) where
-  by_err : {r : Rule} → and_then c (Ok s) ≡ Err r → (k : Checked) → and_then c k ≡ Err r
-  unfolding and_then
-  by_err = go c
-    where
-      go : (c : Checked) {r : Rule} → and_then c (Ok s) ≡ Err r → (k : Checked) → and_then c k ≡ Err r
-      go (Ok tt) e k = cc
-      go (Err j) e k = cc
-
-  by_ok : {x : Site} → and_then c (Ok s) ≡ Ok x → (x ≡ s) × ((k : Checked) → and_then c k ≡ k)
-  unfolding and_then
-  by_ok = go c
-    where
-      go : (c : Checked) {x : Site} → and_then c (Ok s) ≡ Ok x → (x ≡ s) × ((k : Checked) → and_then c k ≡ k)
-      go (Ok tt) e = (cc, λ k. refl)
-      go (Err j) e = (cc, λ k. cc)
+-- ---- the check of the bytes, by their length
 
 module _ (b : List ℕ) where
-  pub value_err : {r : Rule} → and_then (value_length b) (Ok (site_in b)) ≡ Err r → value_check b ≡ Err r
-  unfolding value_check
-  value_err e = by_err (value_length b) (site_in b) e (site_rule (site_in b))
+  pub wrong_length : (length b ≡ 50 → ⊥) → value_check b ≡ Err BadLength
+  unfolding value_check value_length and_then
+  wrong_length h = rw (ne_eqb (length b) 50 h)
 
-  pub value_ok : {s : Site} → and_then (value_length b) (Ok (site_in b)) ≡ Ok s → (s ≡ site_in b) × (value_check b ≡ site_rule (site_in b))
-  unfolding value_check
-  value_ok e = let p = by_ok (value_length b) (site_in b) e in (p.0, p.1 (site_rule (site_in b)))
-
-module _ (b : List ℕ) {s : Site} (h : and_then (value_length b) (Ok (site_in b)) ≡ Ok s) where
-  pub site_is : s ≡ site_in b
-  site_is = (value_ok b h).0
-
-  pub rule_is : value_check b ≡ site_rule s
-  rule_is = (value_ok b h).1 ∙ ap site_rule (sym site_is)
-
--- a value that is refused, by its length or by a rule of its site, and one that passes
-module _ (b : List ℕ) where
-  pub refused : {A : Type 0} {r : Rule} (q : Result A Refusal) → value_check b ≡ Err r → Err (record { rule = r; at = 0 }) ≡ unless (value_check b) 0 q
-  unfolding unless
-  refused q e = rw e
-
-  pub passed : {A : Type 0} (q : Result A Refusal) → value_check b ≡ Ok tt → q ≡ unless (value_check b) 0 q
-  unfolding unless
-  passed q e = rw e
+  pub as_site : length b ≡ 50 → value_check b ≡ site_rule (site_in b)
+  unfolding value_check value_length and_then
+  as_site h = rw (eq-eqb (length b) 50 h)
 
 -- the check alone
 pub check_promised : (c : Checked) {r : ℕ} → r ≡ written_code (write_answer c 0) → Decodes (write_answer c 0) r
@@ -177,20 +143,6 @@ module _ (b old new : List ℕ) where
       × ((new ≡ held_after (output_rule (value_check b) 2 (length old)) (level_numbers (terms_of (site_in b))) old) × (A × (r ≡ 2 → FewAt (terms_of (site_in b)) (get_or new 1 0))))
   unfolding level_numbers
   with_count = said b 2 (omega arith) (level_numbers (terms_of (site_in b))) old new (λ p e. rw e (few_at (site_in b) (value_passes b p)))
-
--- the numbers of a site's loads, of its level and of its judgement
-module _ (b : List ℕ) {s : Site} (is : s ≡ site_in b) where
-  pub loads_are : {l : Loads} → l ≡ loads_of (terms_of s) → l.max_s ∷ l.min_n ∷ l.max_n ∷ l.nut_n ∷ [] ≡ site_load_numbers (site_in b)
-  unfolding site_load_numbers load_numbers
-  loads_are e = rw (e, is)
-
-  pub level_is : {f : Searched} → f ≡ searched_at (terms_of s) → f.level ∷ f.compared ∷ [] ≡ level_numbers (terms_of (site_in b))
-  unfolding level_numbers searched_at searched_of greatest_level levels_compared
-  level_is e = rw (e, is)
-
-  pub judgement_is : {j : Judged} → j ≡ judged_of s → judged_numbers j ≡ judgement_numbers (site_in b)
-  unfolding judgement_numbers judged_numbers site_load_numbers judged_of
-  judgement_is e = rw (e, is)
 
 module _ (b : List ℕ) where
   pub length_loads : length (site_load_numbers (site_in b)) ≡ 4

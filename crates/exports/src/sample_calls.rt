@@ -14,7 +14,7 @@ use sampler::{Sampled, judge_months, refuse_checked};
 use site::{Refusal, Rule};
 
 // The answer for the bytes of a site value and of its months.
-#[tactic(auto, using(crate::proofs::SampleCallLaws::months_refused, crate::proofs::SampleCallLaws::both_whole))]
+#[tactic(auto, unfolding(site::specs::Refusal::and_then, site::specs::Refusal::unless, crate::specs::Layout::value_check, crate::specs::Samples::sample_in, crate::specs::Samples::months_length, sampler::specs::SampleAnswers::sample_answer))]
 fn sample_in(site: &[u8], months: &[u8]) -> Result<Sampled, Refusal>
     ensures { result ≡ sample_in site.now months.now }
 {

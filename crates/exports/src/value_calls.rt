@@ -27,6 +27,7 @@ pub fn site_value(bytes: &[u8]) -> Result<Site, Rule>
     Ok(site_in(bytes))
 }
 
+#[tactic(auto, unfolding(site::specs::Refusal::and_then, site::specs::Refusal::unless, crate::specs::Layout::value_check))]
 fn check_value(bytes: &[u8]) -> Result<usize, Refusal>
     ensures { result ≡ write_answer (value_check bytes.now) 0 }
 {
@@ -42,6 +43,7 @@ pub extern "C" fn forest_check(site: &[u8]) -> u64
     written_code(check_value(site))
 }
 
+#[tactic(auto, unfolding(site::specs::Refusal::and_then, site::specs::Refusal::unless, crate::specs::Layout::value_check, crate::specs::Layout::site_load_numbers, loads::specs::CriticalLoads::loads_answer, loads::specs::CriticalLoads::load_numbers))]
 fn loads_of(bytes: &[u8]) -> Result<[u64; 4], Refusal>
     ensures { result ≡ unless (value_check bytes.now) 0 (Ok (site_load_numbers (site_in bytes.now))) }
 {
@@ -59,6 +61,7 @@ pub extern "C" fn forest_loads(site: &[u8], out: &mut [u64]) -> u64
 }
 
 // The level, and how many levels were compared.
+#[tactic(auto, unfolding(site::specs::Refusal::and_then, site::specs::Refusal::unless, crate::specs::Layout::value_check, level::specs::SiteLevel::site_level, loads::specs::Search::level_numbers, loads::specs::Search::searched_at, loads::specs::Search::searched_of, loads::specs::Search::levels_compared, loads::specs::Hydrogen::greatest_level))]
 fn level_of(bytes: &[u8]) -> Result<[u64; 2], Refusal>
     ensures { result ≡ unless (value_check bytes.now) 0 (Ok (level_numbers (terms_of (site_in bytes.now)))) }
 {
@@ -101,6 +104,7 @@ pub fn judged_numbers(judged: Judged) -> [u64; 8]
     }
 }
 
+#[tactic(auto, unfolding(site::specs::Refusal::and_then, site::specs::Refusal::unless, crate::specs::Layout::value_check, crate::specs::Layout::judgement_numbers, crate::specs::Layout::judged_numbers, crate::specs::Layout::site_load_numbers, judgement::specs::Answers::judgement_answer, judgement::specs::Answers::judged_of))]
 fn judgement_of(bytes: &[u8]) -> Result<[u64; 8], Refusal>
     ensures { result ≡ unless (value_check bytes.now) 0 (Ok (judgement_numbers (site_in bytes.now))) }
 {
