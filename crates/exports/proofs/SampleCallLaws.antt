@@ -8,10 +8,9 @@ use borrow.Author.Tests.{eq-eqb, ne_eqb}
 use Rattle.std.specs.Prelude.{Result, Ok, Err}
 use Rattle.site.specs.Bytes.{tabulate}
 use Rattle.site.specs.Check.{site_rule}
-use Rattle.site.specs.Refusal.{Checked, and_then, unless}
+use Rattle.site.specs.Refusal.{Checked, unless}
 use Rattle.site.proofs.ByCheckLaws.{unless_ok}
 use Rattle.site.specs.declared.Refusal.{Refusal}
-use Rattle.site.specs.declared.Rule.{Rule}
 use Rattle.site.specs.declared.Rule.TheVariants.{BadLength}
 use Rattle.site.specs.declared.Site.{Site}
 use Rattle.loads.specs.Terms.{Terms}
@@ -34,7 +33,7 @@ use Rattle.sampler.specs.declared.Sampled.{Sampled}
 use Rattle.sampler.proofs.SampleLaws.{pair_rule, pair_terms, sample_given, checked_at, year_at}
 use Rattle.exports.specs.Codes.{code_base, written_code, Decodes}
 use Rattle.exports.specs.Numbers.{numbers_written, numbers_held}
-use Rattle.exports.specs.Layout.{site_in, value_length, value_check, site_load_numbers, mark_number, verdict_marked, judged_numbers, judgement_numbers}
+use Rattle.exports.specs.Layout.{site_in, value_check, site_load_numbers, mark_number, verdict_marked, judged_numbers, judgement_numbers}
 use Rattle.exports.specs.Samples.{months_length, sample_in, sampled_numbers, sampled, sample_written, sample_held, NumbersByKey}
 use Rattle.exports.proofs.CodeLaws.{decodes, count_below}
 use Rattle.exports.proofs.SiteValueLaws.{wrong_length, as_site, value_passes, counted_passed, length_marked, mark_tells, mark_at}

@@ -1,7 +1,7 @@
 -- The check of a site value's bytes, and what the calls promise.
 use Prim.Native.Nat.{ℕ, ◌<◌}
-use mathlib.Core.Path.{◌≡◌, refl, sym, ap, ◌∙◌}
-use mathlib.Core.List.{List, [], ◌∷◌, ◌++◌}
+use mathlib.Core.Path.{◌≡◌, refl, ap, ◌∙◌}
+use mathlib.Core.List.{List, ◌++◌}
 use native.Mathlib.Omega.{arith}
 use lib.ListN.{length, drop, get_or}
 use borrow.Author.Tests.{eq-eqb, ne_eqb}
@@ -13,17 +13,12 @@ use Rattle.site.specs.declared.Rule.TheVariants.{BadLength}
 use Rattle.site.specs.declared.Site.{Site}
 use Rattle.site.proofs.Passing.{both_passed}
 use Rattle.loads.specs.SiteTerms.{terms_of}
-use Rattle.loads.specs.declared.Loads.{Loads}
-use Rattle.loads.specs.declared.Searched.{Searched}
-use Rattle.loads.specs.CriticalLoads.{loads_of, load_numbers}
-use Rattle.loads.specs.Hydrogen.{greatest_level}
-use Rattle.loads.specs.Search.{searched_of, searched_at, levels_compared, level_numbers, FewAt}
+use Rattle.loads.specs.CriticalLoads.{load_numbers}
+use Rattle.loads.specs.Search.{level_numbers, FewAt}
 use Rattle.level.proofs.SiteLevelLaws.{few_at}
-use Rattle.judgement.specs.declared.Judged.{Judged}
 use Rattle.judgement.specs.declared.Verdict.{Verdict}
 use Rattle.judgement.specs.declared.Verdict.TheVariants.{Within, Over}
 use Rattle.judgement.specs.Verdicts.{verdict, verdict_numbers}
-use Rattle.judgement.specs.Answers.{judged_of}
 use Rattle.judgement.specs.Balance.{MarkSays}
 use Rattle.judgement.proofs.Demand3.{verdict_tells}
 use Rattle.judgement.proofs.AtSites.{site_bounds}
@@ -31,7 +26,7 @@ use Rattle.output.specs.Output.{Written, write_answer, output_rule, held_after}
 use Rattle.output.proofs.OutputLaws.{output_whole, output_passed}
 use Rattle.exports.specs.Codes.{code_base, written_code, Decodes}
 use Rattle.exports.specs.Numbers.{numbers_written, numbers_held}
-use Rattle.exports.specs.Layout.{site_in, value_length, value_check, value_answer, site_load_numbers, mark_number, verdict_marked, judged_numbers, judgement_numbers}
+use Rattle.exports.specs.Layout.{site_in, value_length, value_check, value_answer, site_load_numbers, mark_number, verdict_marked, judgement_numbers}
 use Rattle.exports.proofs.CodeLaws.{count_below, by_check_decodes}
 
 -- ---- the check of the bytes, by their length
