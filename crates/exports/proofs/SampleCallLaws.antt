@@ -41,14 +41,14 @@ use Rattle.exports.proofs.SiteValueLaws.{wrong_length, as_site, value_passes, co
 -- ---- the bytes
 
 module _ (b m : List ℕ) where
-  pub site_length : (length b ≡ 50 → ⊥) → sample_in b m ≡ Err (record { rule = BadLength; at = 0 })
-  unfolding sample_in unless
-  site_length h = rw (wrong_length b h)
-
   -- the checks of the site come before the length of the months
   pub months_length_lem : length b ≡ 50 → (length m ≡ 204 → ⊥) → sample_in b m ≡ unless (site_rule (site_in b)) 0 (Err (record { rule = BadLength; at = 0 }))
   unfolding sample_in months_length unless
   months_length_lem h n = rw (as_site b h, ne_eqb (length m) 204 n)
+
+  pub site_length : (length b ≡ 50 → ⊥) → sample_in b m ≡ Err (record { rule = BadLength; at = 0 })
+  unfolding sample_in unless
+  site_length h = rw (wrong_length b h)
 
   pub both_whole : length b ≡ 50 → length m ≡ 204 → sample_in b m ≡ sample_answer (site_in b) (months_in m)
   unfolding sample_in months_length sample_answer unless
