@@ -1,4 +1,4 @@
-// The blank site, which reading starts from.
+// The blank site, which reading starts from: field by field, since a derived `Default` was not shown to give it.
 ghost use Rattle.std.specs.Prelude.{◌≡◌};
 ghost use Rattle.field.specs.Field.{blank_site};
 

@@ -18,6 +18,7 @@ fn store(site: &mut Site, tag: u8, value: &[u8])
         1 => {
             site.name = Name {
                 bytes: name_in(value),
+                // a permitted length fits: a name has at most 8 bytes, a stand at most 16
                 len: value.len() as u8,
             }
         }

@@ -51,6 +51,7 @@ impl SoilWater {
         let mut low = 0;
         let mut high = self.ceiling;
         let mut compared = 1;
+        // each turn halves what lies between; no index is counted
         while low + 1 < high {
             let middle = (low + high) / 2;
             compared += 1;

@@ -27,7 +27,7 @@ pub struct Entry {
     pub yield_kg: u16,
 }
 
-// The first `len` of the bytes: the others are no part of the name.
+// The first `len` of the bytes: the others are no part of the name. `Default` fills the free places of a vector of rows.
 #[derive(Clone, Copy, Default)]
 pub struct Name {
     pub bytes: [u8; 8],
