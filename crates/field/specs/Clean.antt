@@ -6,24 +6,9 @@ use Rattle.site.specs.OneSite.{OneSite}
 
 -- the site with zeros past its name's length and its entries' count
 unfoldable pub clean : Site → Site
-clean s = record {
+clean s = record s {
   name = record { bytes = take 8 (take s.name.len s.name.bytes ++ replicate 8 0); len = s.name.len };
-  parent = s.parent;
-  clay = s.clay;
-  sand = s.sand;
-  depth = s.depth;
-  drainage = s.drainage;
-  percolation = s.percolation;
   stand = record { entries = take 4 (take s.stand.count s.stand.entries ++ replicate 4 no_entry); count = s.stand.count };
-  immobilisation = s.immobilisation;
-  available = s.available;
-  base_deposition = s.base_deposition;
-  ratio = s.ratio;
-  gibbsite = s.gibbsite;
-  ceiling = s.ceiling;
-  leachate = s.leachate;
-  sulphur = s.sulphur;
-  nitrogen = s.nitrogen;
 }
 
 -- s and t are the same site: all values are equal, name and stand up to their lengths; what stands past them is no part of a site
