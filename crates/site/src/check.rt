@@ -16,25 +16,13 @@ fn check_field(site: &Site, tag: u8) -> Result<(), Rule>
     value_rule(site, tag)
 }
 
-// Tag by tag and not in a loop: so each tag is a constant, and its rule a few tests.
-#[tactic(auto, using(crate::proofs::NumberLaws::numbered, crate::proofs::NumberLaws::known_site), unfolding(crate::specs::Check::site_rule, crate::specs::Check::fields_rule, crate::specs::Refusal::and_then))]
+#[tactic(auto, using(crate::proofs::FieldLaws::fields_next, crate::proofs::NumberLaws::numbered, crate::proofs::NumberLaws::known_site), unfolding(crate::specs::Check::site_rule, crate::specs::Check::fields_rule, crate::specs::Refusal::and_then))]
 pub fn check_site(site: Site) -> Result<(), Rule>
     ensures answer { result ≡ site_rule site }
     ensures number { Numbered (site_rule site) (checked_number result) }
 {
-    check_field(&site, 1)?;
-    check_field(&site, 2)?;
-    check_field(&site, 3)?;
-    check_field(&site, 4)?;
-    check_field(&site, 5)?;
-    check_field(&site, 6)?;
-    check_field(&site, 7)?;
-    check_field(&site, 8)?;
-    check_field(&site, 9)?;
-    check_field(&site, 10)?;
-    check_field(&site, 11)?;
-    check_field(&site, 12)?;
-    check_field(&site, 13)?;
-    check_field(&site, 14)?;
-    check_field(&site, 15)
+    for tag in 1..=15 {
+        check_field(&site, tag)?;
+    }
+    Ok(())
 }
