@@ -1,18 +1,18 @@
 -- Laws of a field taken into a site.
 use mathlib.Core.Path.{◌≡◌, refl}
-use mathlib.Core.Bool.{Bool, true, false}
+use mathlib.Core.Bool.{true}
 use mathlib.Core.List.{List}
 use Prim.Native.Nat.{ℕ}
 use lib.ListN.{length}
 use Rattle.std.specs.Prelude.{Ok, Err}
 use Rattle.site.specs.declared.Rule.TheVariants.{BadLength}
 use Rattle.site.specs.declared.Site.{Site}
-use Rattle.site.specs.Choice.{pick}
 use Rattle.site.specs.Refusal.{Checked, checked_number, Numbered}
 use Rattle.site.specs.Values.{length_permitted, value_rule}
 use Rattle.site.proofs.NumberLaws.{known, numbered, known_pick, known_value}
 use Rattle.field.specs.Field.{store, site_kind, taken}
 use Rattle.field.specs.Kind.{field_rule}
+use Rattle.field.proofs.KindLaws.{parts_passed}
 
 module _ (t : ℕ) (v : List ℕ) (s : Site) where
   pub known_field : known (field_rule site_kind t v s) ≡ true
@@ -23,11 +23,10 @@ module _ (t : ℕ) (v : List ℕ) (s : Site) where
   pub field_numbered : (r : Checked) → r ≡ field_rule site_kind t v s → Numbered (field_rule site_kind t v s) (checked_number r)
   field_numbered r e = rw e (numbered _ _ refl known_field)
 
-  -- a field that passes stands in the site
+  -- a field of a permitted length stands in the site
+  pub taken_site : length_permitted t (length v) ≡ true → taken t v s ≡ store t v s
+  unfolding taken
+  taken_site p = rw p
+
   pub taken_ok : field_rule site_kind t v s ≡ Ok tt → taken t v s ≡ store t v s
-  unfolding field_rule taken
-  taken_ok = go (length_permitted t (length v))
-    where
-      go : (b : Bool) → pick b (value_rule t (store t v s)) (Err BadLength) ≡ Ok tt → pick b (store t v s) s ≡ store t v s
-      go true e = refl
-      go false e = cc
+  taken_ok e = taken_site (parts_passed site_kind t v s e).0

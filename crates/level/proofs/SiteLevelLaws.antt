@@ -27,10 +27,13 @@ module _ (s : Site) where
   unfolding level_rule and_then value_rule
   search_passed e = rw ((site_passed s e 5 (omega arith)).1, (site_passed s e 11 (omega arith)).1) (site_passed s e 12 (omega arith)).1
 
+  pub search_at : site_rule s ≡ Ok tt → level_answer s.percolation s.gibbsite (terms_of s).A s.ceiling ≡ site_level s
+  unfolding level_answer site_level and_then searched_at terms_of
+  search_at e = rw (e, search_passed e)
+
   -- the answer by that of the aluminium limit
   pub by_limit : (a : ℕ) → limit_answer s ≡ Ok a → level_answer s.percolation s.gibbsite a s.ceiling ≡ site_level s
-  unfolding level_answer site_level and_then searched_at terms_of
-  by_limit a e = let g = limit_given s a e in rw (g.0, g.1, search_passed g.0)
+  by_limit a e = let g = limit_given s a e in rw g.1 (search_at g.0)
 
   pub by_refusal : (r : Rule) → limit_answer s ≡ Err r → site_level s ≡ Err r
   unfolding site_level and_then

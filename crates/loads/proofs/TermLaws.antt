@@ -7,7 +7,7 @@ use Rattle.site.specs.Ranges.{ceiling_range}
 use Rattle.loads.specs.MostTerms.{most_hydrogen, most_max_s}
 use Rattle.loads.specs.Terms.{Terms, TermBounds}
 use Rattle.loads.specs.Hydrogen.{hydrogen_of, hydrogen, aluminium, greatest_level, critical_leaching}
-use Rattle.loads.specs.CriticalLoads.{cl_max_s, cl_min_n, cl_nut_n}
+use Rattle.loads.specs.CriticalLoads.{cl_max_s, cl_min_n, cl_max_n, cl_nut_n, loads_of}
 use Rattle.loads.proofs.LevelLaws.{hydrogen_of_mono, al_of_mono, level_le, level_allowed, level_greatest}
 
 module _ (t : Terms) where
@@ -22,6 +22,13 @@ module _ (t : Terms) where
   pub cl_nut_n_is : cl_nut_n t ≡ cl_min_n t + 1000 * t.L / t.e
   unfolding cl_nut_n
   cl_nut_n_is = refl
+
+  -- the four loads from the numbers that they rest on
+  pub loads_by :
+      (C m l e : ℕ) → C ≡ cl_max_s t → m ≡ cl_min_n t → l ≡ t.L → e ≡ t.e
+      → record { max_s = C; min_n = m; max_n = m + 1000 * C / e; nut_n = m + 1000 * l / e } ≡ loads_of t
+  unfolding loads_of cl_max_n cl_nut_n
+  loads_by C m l e acid nitrogen leached undenitrified = rw (acid, nitrogen, leached, undenitrified)
 
   -- hydrogen and aluminium grow with the level
   hydrogen_mono : {i j : ℕ} → i ≤ j → hydrogen t i ≤ hydrogen t j

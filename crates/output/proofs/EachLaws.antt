@@ -1,9 +1,10 @@
 -- Laws of `each`, and of a loop that writes the text of each element.
-use Prim.Native.Nat.{ℕ, ◌+◌, ◌≤◌, ◌<◌}
+use Prim.Native.Nat.{ℕ, ◌+◌, ◌-◌, ◌≤◌, ◌<◌}
 use mathlib.Core.Path.{◌≡◌, ap, ◌∙◌}
 use mathlib.Core.List.{List, ◌++◌, append-nil}
 use native.Mathlib.Omega.{arith}
 use lib.ListN.{length, get_or, take, length-append}
+use lib.Seq.{take-add}
 use Rattle.std.proofs.lemmas.List.{take_more}
 use Rattle.std.proofs.lemmas.List.Folds.{length-flat_map-take}
 use Rattle.std.proofs.lemmas.Grind.{flat_map-append}
@@ -26,6 +27,14 @@ module _ {A B : Type 0} (f : A → List B) where
   pub each_fits : (at : ℕ) {m : ℕ} (xs : List A) (i : ℕ) (d : A) → i < length xs → at + length (flat_map f xs) ≤ m
       → at + length (flat_map f (take i xs) ++ f (get_or xs i d)) ≤ m
   each_fits at xs i d h r = simp length-append (omega (arith, length-flat_map-take f xs i d h))
+
+  -- and from the room for the first n
+  pub each_room : (at : ℕ) {m : ℕ} (xs : List A) (i n : ℕ) (d : A) → i < n → i < length xs → at + length (flat_map f (take n xs)) ≤ m
+      → at + length (flat_map f (take i xs) ++ f (get_or xs i d)) ≤ m
+  each_room at xs i n d h l r =
+      let e : n ≡ (i + 1) + (n - (i + 1)) = omega arith in
+      let whole = rw (e, take-add (i + 1) (n - (i + 1)) xs, each_append, length-append) at r in
+      rw (← each_more xs i d l) (omega (arith, whole))
 
 -- ---- a turn of a loop that has written the texts of the first i elements; z is what stands past the end of xs
 

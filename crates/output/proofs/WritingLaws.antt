@@ -2,10 +2,11 @@
 use Prim.Native.Nat.{ℕ, suc, ◌+◌, ◌≤◌, ◌<◌}
 use mathlib.Core.Path.{◌≡◌, refl, sym, ap, ◌∙◌}
 use mathlib.Core.List.{List, [], ◌∷◌, ◌++◌, append_assoc}
-use native.Mathlib.Nat.{add-zero, zero-add}
+use native.Mathlib.Nat.{add-zero, zero-add, add_assoc}
 use native.Mathlib.Omega.{arith}
-use lib.ListN.{length, set, take, drop, length-set, length-append}
-use lib.Seq.{take-length, set_comm, sets, sets-eq}
+use native.Mathlib.Numerals.{add-one}
+use lib.ListN.{length, get_or, set, take, drop, length-set, length-append}
+use lib.Seq.{take-suc, take_all, take-length, set_comm, sets, sets-eq}
 use borrow.Rule.Slice.PartMut.{put_mid}
 use Rattle.std.proofs.lemmas.Slice.{put_mid-paste}
 use Rattle.std.proofs.lemmas.List.{take-append-drop}
@@ -104,3 +105,16 @@ module _ {A : Type 0} where
   -- a store, then a run from the next index on
   pub stored_then : {d e : List A} {at r : ℕ} {x : A} {xs : List A} → WroteIf (set d at x) (at + 1) xs e r → at + length (x ∷ xs) ≤ length d → Wrote d at (x ∷ xs) e r
   stored_then {d} {at = at} {x = x} w h = then (stored d at x) (w.fits (simp length-set (omega arith)))
+
+  -- ---- a loop that copies s, an element a turn
+
+  pub copy_none : (d : List A) (at : ℕ) (s : List A) → Wrote d at (take 0 s) d (at + 0)
+  unfolding write
+  copy_none d at s = record { next = refl; text = refl }
+
+  pub copy_more : {d e : List A} {at : ℕ} (z : A) (s : List A) (j : ℕ) → j < length s → Wrote d at (take j s) e (at + j)
+      → Wrote d at (take (j + 1) s) (set e (at + j) (get_or s j z)) (at + (j + 1))
+  copy_more {d} {e} {at} z s j h w = rw (add-one, take-suc s j z, ← add-one, ← add_assoc) (then w (stored e (at + j) (get_or s j z)))
+
+  pub copy_all : {d e : List A} {at r : ℕ} (s : List A) (j : ℕ) → length s ≤ j → Wrote d at (take j s) e r → Wrote d at s e r
+  copy_all s j h w = rw (take_all j s h) at w

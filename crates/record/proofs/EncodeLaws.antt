@@ -1,11 +1,11 @@
 -- Laws of a record's bytes: its fields one after another, for every kind, and the length of a site's record.
-use mathlib.Core.Path.{◌≡◌, ap, ◌∙◌}
-use mathlib.Core.List.{List, ◌∷◌, []}
+use mathlib.Core.Path.{◌≡◌, refl, ap, ◌∙◌}
+use mathlib.Core.List.{List, ◌∷◌, [], ◌++◌}
 use Prim.Native.Nat.{ℕ, ◌+◌, ◌*◌, ◌/◌, ◌%◌, ◌≤◌}
 use native.Mathlib.Omega.{arith}
 use lib.ListN.{length, take, length-append}
 use Rattle.site.specs.declared.Site.{Site}
-use Rattle.std.specs.Prelude.{Ok}
+use Rattle.std.specs.Prelude.{Ok, flat_map}
 use Rattle.site.specs.Check.{site_rule}
 use Rattle.site.specs.Values.{due}
 use Rattle.site.proofs.FieldLaws.{site_passed}
@@ -46,15 +46,29 @@ unfolding encode_fields
 fields_more K x t h v w = rw (tags_more t h) (then v w)
 
 module _ {A : Type 0} (K : Kind A) (s : A) where
+  abbrev pub field_at : ℕ → List ℕ
+  field_at t = field_of t (K.bytes t s)
+
+  -- the fields, one after another
+  pub fields_each : (ts : List ℕ) → encode_fields K ts s ≡ flat_map field_at ts
+  unfolding encode_fields
+  fields_each [] = refl
+  fields_each (t ∷ ts) = ap (λ (l : List ℕ). field_at t ++ l) (fields_each ts)
+
   pub encode_length : length (encode_as K s) ≡ 3 + length (encode_fields K K.due s)
   unfolding encode_as field_of
   encode_length = omega arith
 
--- head, then fields: the record
+  -- head, then fields: the record
+  pub encode_wrote : {l b c : List ℕ} {at n q r : ℕ} → n ≡ length (encode_fields K K.due s)
+      → Wrote l at (K.tag ∷ (n / 256) ∷ (n % 256) ∷ []) b q → Wrote b q (encode_fields K K.due s) c r → Wrote l at (encode_as K s) c r
+  unfolding encode_as
+  encode_wrote e v w = field_wrote K.tag (encode_fields K K.due s) e v w
+
+-- the same of a site
 pub record_wrote : {l b c : List ℕ} {at n q r : ℕ} (s : Site) → n ≡ length (encode_fields site_kind due s)
     → Wrote l at (82 ∷ (n / 256) ∷ (n % 256) ∷ []) b q → Wrote b q (encode_fields site_kind due s) c r → Wrote l at (encode s) c r
-unfolding encode_as
-record_wrote s e v w = field_wrote 82 (encode_fields site_kind due s) e v w
+record_wrote s e v w = encode_wrote site_kind s e v w
 
 -- 15 heads, 24 bytes of values of one length, the name and the entries
 fields_length : (s : Site) → length (encode_fields site_kind due s)

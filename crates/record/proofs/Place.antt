@@ -81,7 +81,7 @@ unfolding found_of
 err_found (Ok y) e = cc
 err_found (Err k) e = cc
 
-found_numbers : (q : Result (Site × ℕ) Refusal) → result_numbers (found_of q) ≡ result_numbers q
+pub found_numbers : (q : Result (Site × ℕ) Refusal) → result_numbers (found_of q) ≡ result_numbers q
 unfolding found_of result_numbers
 found_numbers (Ok x) = refl
 found_numbers (Err r) = refl

@@ -1,15 +1,16 @@
 -- Laws of the walk over the fields of a record, for every kind.
-use mathlib.Core.Path.{◌≡◌, refl, sym, ◌∙◌}
+use mathlib.Core.Path.{◌≡◌, refl}
 use mathlib.Core.Bool.{Bool, true, false}
 use mathlib.Core.List.{List, [], ◌∷◌, ◌++◌}
 use Prim.Native.Nat.{ℕ, ◌+◌, ◌-◌, ◌≤◌, ◌<◌}
 use native.Mathlib.Nat.{add-sub_cancel_left}
 use native.Mathlib.Omega.{arith}
+use native.Mathlib.Numerals.{add-one}
 use lib.Dec.{ltb, eqb}
-use lib.ListN.{length, get_or, take, drop, length-drop}
-use lib.Seq.{take_all}
+use lib.ListN.{length, get_or, take, drop, length-drop, drop_of_length-le}
+use lib.Seq.{drop-cons, take_all}
 use borrow.Author.Tests.{eqb-true, ltb-false, ne_eqb, le-ltb}
-use Rattle.std.specs.Prelude.{Result, Ok, Err}
+use Rattle.std.specs.Prelude.{Ok, Err}
 use Rattle.site.specs.declared.Site.{Site}
 use Rattle.site.specs.declared.Refusal.{Refusal}
 use Rattle.site.specs.declared.Rule.{Rule}
@@ -65,6 +66,35 @@ pub rest_all : (l : List ℕ) (e : ℕ) → take (length l - e) (drop e l) ≡ d
 rest_all l e = take_all (length l - e) (drop e l) (simp length-drop (omega arith))
 
 module _ {A : Type 0} (K : Kind A) where
+  -- ---- a step of the walk, at due tag k
+
+  module _ (ds : List ℕ) (k : ℕ) (inside : k < length ds) (x : A) (bs : List ℕ) (at : ℕ) where
+    pub walk_head : (r : Rule) → head_rule (get_or ds k 0) bs ≡ Err r → walk_fields K (drop k ds) x bs at ≡ Err (record { rule = r; at = at })
+    unfolding walk_fields unless
+    walk_head r e = rw (drop-cons ds k 0, e)
+
+    module _ (ok : head_rule (get_or ds k 0) bs ≡ Ok tt) where
+      pub walk_value : (r : Rule) → field_rule K (get_or ds k 0) (value_at bs) x ≡ Err r → walk_fields K (drop k ds) x bs at ≡ Err (record { rule = r; at = at })
+      unfolding walk_fields unless
+      walk_value r e = rw (drop-cons ds k 0, ok, e)
+
+      pub walk_next : field_rule K (get_or ds k 0) (value_at bs) x ≡ Ok tt → (y : A) → y ≡ K.store (get_or ds k 0) (value_at bs) x
+          → (end : ℕ) → end ≡ 3 + stated_len bs
+          → walk_fields K (drop k ds) x bs at ≡ walk_fields K (drop (k + 1) ds) y (take (length bs - end) (drop end bs)) (at + end)
+      unfolding walk_fields unless
+      walk_next e y is end is_end = rw (drop-cons ds k 0, ok, e, is, rest_all, is_end, add-one k)
+
+  -- ---- the end of the walk: no tag is due
+
+  module _ (ds : List ℕ) (k : ℕ) (x : A) (bs : List ℕ) (at : ℕ) (past : length ds ≤ k) where
+    pub walk_done : length bs ≡ 0 → walk_fields K (drop k ds) x bs at ≡ Ok x
+    unfolding walk_fields
+    walk_done e = let q : drop k ds ≡ [] = drop_of_length-le ds {i = k} past in rw (q, e)
+
+    pub walk_more : (length bs ≡ 0 → ⊥) → walk_fields K (drop k ds) x bs at ≡ Err (record { rule = InnerTag; at = at })
+    unfolding walk_fields
+    walk_more e = let q : drop k ds ≡ [] = drop_of_length-le ds {i = k} past in rw (q, ne_eqb _ _ e)
+
   -- ---- what an accepted walk was
 
   end_ok : (b : Bool) (x s : A) (r : Refusal) → pick b (Ok x) (Err r) ≡ Ok s → (b ≡ true) × (x ≡ s)
@@ -89,37 +119,50 @@ module _ {A : Type 0} (K : Kind A) where
       let q = unless_ok (field_rule K t (value_at bs) x) at _ p.1 in
       record { head = head_passed t bs p.0; passed = q.0; more = q.1 }
 
--- ---- the site's walk, as the code makes it
+-- ---- a step of the site's walk, at due tag k: the value as the code takes it
+
+module _ (ds : List ℕ) (k : ℕ) (inside : k < length ds) (s : Site) (bs : List ℕ) (at : ℕ) (ok : head_rule (get_or ds k 0) bs ≡ Ok tt)
+    (end : ℕ) (is_end : end ≡ 3 + stated_len bs) where
+  abbrev t : ℕ
+  t = get_or ds k 0
+
+  abbrev v : List ℕ
+  v = take (end - 3) (drop 3 bs)
+
+  value_is : v ≡ value_at bs
+  value_is = rw (is_end, add-sub_cancel_left)
+
+  pub site_value : (r : Rule) → field_rule site_kind t v s ≡ Err r → walk_fields site_kind (drop k ds) s bs at ≡ Err (record { rule = r; at = at })
+  site_value r e = walk_value site_kind ds k inside s bs at ok r (rw value_is at e)
+
+  pub site_next : field_rule site_kind t v s ≡ Ok tt
+      → walk_fields site_kind (drop k ds) s bs at ≡ walk_fields site_kind (drop (k + 1) ds) (taken t v s) (take (length bs - end) (drop end bs)) (at + end)
+  site_next e =
+      let passed = rw value_is at e in
+      let is : taken t v s ≡ site_kind.store t (value_at bs) s = rw value_is (taken_ok t (value_at bs) s passed) in
+      walk_next site_kind ds k inside s bs at ok passed (taken t v s) is end is_end
+
+-- ---- the same at tag t of a loop over 01 to 0F
 
 module _ (s : Site) (bs : List ℕ) (at : ℕ) where
-  -- a step, at tag t
   module _ (t : ℕ) (inside : t ≤ 15) where
-    pub walk_head : (r : Rule) → head_rule t bs ≡ Err r → walk_fields site_kind (tags_from t) s bs at ≡ Err (record { rule = r; at = at })
-    unfolding walk_fields unless
-    walk_head r e = rw (tags_more t inside, e)
+    abbrev ds : List ℕ
+    ds = t ∷ tags_from (t + 1)
+
+    pub tag_head : (r : Rule) → head_rule t bs ≡ Err r → walk_fields site_kind (tags_from t) s bs at ≡ Err (record { rule = r; at = at })
+    tag_head r e = rw (tags_more t inside) (walk_head site_kind ds 0 (omega arith) s bs at r e)
 
     module _ (ok : head_rule t bs ≡ Ok tt) (end : ℕ) (is_end : end ≡ 3 + stated_len bs) where
-      -- the value as the code takes it
-      abbrev v : List ℕ
-      v = take (end - 3) (drop 3 bs)
+      pub tag_value : (r : Rule) → field_rule site_kind t (take (end - 3) (drop 3 bs)) s ≡ Err r
+          → walk_fields site_kind (tags_from t) s bs at ≡ Err (record { rule = r; at = at })
+      tag_value r e = rw (tags_more t inside) (site_value ds 0 (omega arith) s bs at ok end is_end r e)
 
-      value_is : v ≡ value_at bs
-      value_is = rw (is_end, add-sub_cancel_left)
-
-      pub walk_value : (r : Rule) → field_rule site_kind t v s ≡ Err r → walk_fields site_kind (tags_from t) s bs at ≡ Err (record { rule = r; at = at })
-      unfolding walk_fields unless
-      walk_value r e =
-          let broken = rw value_is at e in
-          rw (tags_more t inside, ok, broken)
-
-      pub walk_next : field_rule site_kind t v s ≡ Ok tt
-          → walk_fields site_kind (tags_from t) s bs at ≡ walk_fields site_kind (tags_from (t + 1)) (taken t v s) (take (length bs - end) (drop end bs)) (at + end)
-      unfolding walk_fields unless
-      walk_next e =
-          let passed = rw value_is at e in
-          rw (value_is, taken_ok t (value_at bs) s passed, tags_more t inside, ok, passed, rest_all, is_end)
+      pub tag_next : field_rule site_kind t (take (end - 3) (drop 3 bs)) s ≡ Ok tt
+          → walk_fields site_kind (tags_from t) s bs at
+          ≡ walk_fields site_kind (tags_from (t + 1)) (taken t (take (end - 3) (drop 3 bs)) s) (take (length bs - end) (drop end bs)) (at + end)
+      tag_next e = rw (tags_more t inside) (site_next ds 0 (omega arith) s bs at ok end is_end e)
 
   -- the end: no tag is due
-  pub walk_end : (t : ℕ) → 15 < t → walk_fields site_kind (tags_from t) s bs at ≡ pick (eqb (length bs) 0) (Ok s) (Err (record { rule = InnerTag; at = at }))
+  pub tag_none : (t : ℕ) → 15 < t → walk_fields site_kind (tags_from t) s bs at ≡ pick (eqb (length bs) 0) (Ok s) (Err (record { rule = InnerTag; at = at }))
   unfolding walk_fields
-  walk_end t past = rw (tags_none t past)
+  tag_none t past = rw (tags_none t past)

@@ -28,7 +28,7 @@ fn head_rule(rest: &[u8], tag: u8) -> Result<(), Rule>
 }
 
 // The fields 01 to 0F of a record. The part starts at `base` of the lent input.
-#[tactic(auto, using(crate::proofs::WalkLaws::head_passed, crate::proofs::WalkLaws::walk_head, crate::proofs::WalkLaws::walk_value, crate::proofs::WalkLaws::walk_end))]
+#[tactic(auto, using(crate::proofs::WalkLaws::head_passed, crate::proofs::WalkLaws::tag_head, crate::proofs::WalkLaws::tag_value, crate::proofs::WalkLaws::tag_none))]
 pub fn read_fields(part: &[u8], base: usize) -> Result<Site, Refusal>
     requires { base + length part.now < 2 ^ 64 }
     ensures { result ≡ fields_in site_kind part.now base }

@@ -15,6 +15,7 @@ pub fn put_head(buf: &mut [u8], at: usize, tag: u8, n: usize) -> usize
     requires { (at + 3 ≤ length buf.old) × (n < 65536) }
     ensures { Wrote buf.old at (tag ∷ (n / 256) ∷ (n % 256) ∷ []) buf.new result }
 {
+    // the contract keeps n below 65536
     let [hi, lo] = (n as u16).to_be_bytes();
     put_bytes(buf, at, &[tag, hi, lo])
 }

@@ -11,11 +11,12 @@ fn of(bytes: &[u8]) -> ArrayVec<u8, 16>
     ensures { result.items ≡ bytes.now }
 {
     let mut held = ArrayVec::new();
+    // no error: by the contract there are no more than fit
     held.try_extend_from_slice(bytes).unwrap();
     held
 }
 
-#[tactic(auto, using(crate::proofs::ValueBytesLaws::entries_more, crate::proofs::ValueBytesLaws::entries_long), unfolding(field::specs::Field::entries_bytes))]
+#[tactic(auto, unfolding(field::specs::Field::entries_bytes))]
 fn of_entries(entries: &[Entry]) -> ArrayVec<u8, 16>
     requires { length entries.now ≤ 4 }
     ensures { result.items ≡ entries_bytes entries.now }
@@ -23,13 +24,14 @@ fn of_entries(entries: &[Entry]) -> ArrayVec<u8, 16>
     let mut held = ArrayVec::new();
     for e in entries {
         let [hi, lo] = e.yield_kg.to_be_bytes();
+        // no error: by the contract there are at most four entries, with four bytes each
         held.try_extend_from_slice(&[e.species, e.share, hi, lo])
             .unwrap();
     }
     held
 }
 
-#[tactic(auto, using(site::proofs::MatchLaws::none_below, crate::proofs::ValueBytesLaws::no_value, site::proofs::PartLaws::take_min), unfolding(field::specs::Field::value))]
+#[tactic(auto, unfolding(field::specs::Field::value))]
 pub fn value_of(site: Site, tag: u8) -> ArrayVec<u8, 16>
     ensures { result.items ≡ value tag site }
 {
