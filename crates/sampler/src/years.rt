@@ -7,7 +7,7 @@ use crate::{Month, Pair};
 use site::{Refusal, Rule};
 
 // The sums of the year in µg per square metre, divided, up.
-#[tactic(auto, using(crate::proofs::QuotientLaws::up_div_ceil))]
+#[tactic(auto, using(loads::proofs::Numbers::up_is))]
 fn divided(sum: Deposition) -> Result<Pair, Refusal>
     ensures { result ≡ divided_pair sum.sulphur sum.nitrogen }
 {
