@@ -1,4 +1,4 @@
--- A float's µg: what the definition means, by the two tests of the code, and by the float's bits.
+-- A float's µg: what the definition means, by the test of the code, and by the float's bits.
 use Prim.Native.Nat.{ℕ, ◌+◌, ◌*◌, ◌%◌, ◌^◌, ◌≤◌, ◌<◌}
 use mathlib.Core.Path.{◌≡◌, refl, sym, ap, ◌∙◌}
 use mathlib.Core.Bool.{Bool, true, false, cond, ◌&&◌, ◌||◌, true≢false}
