@@ -1,21 +1,28 @@
--- A float's µg: what the definition means, by the two tests of the code, and by the float's bits.
+-- A float's µg: what the definition means, by the test of the code, and by the float's bits.
 use Prim.Native.Nat.{ℕ, ◌+◌, ◌*◌, ◌%◌, ◌^◌, ◌≤◌, ◌<◌}
 use mathlib.Core.Path.{◌≡◌, refl, sym, ap, ◌∙◌}
-use mathlib.Core.Bool.{Bool, true, false, ◌&&◌, ◌||◌, true≢false}
+use mathlib.Core.Bool.{Bool, true, false, cond, ◌&&◌, ◌||◌, true≢false}
+use mathlib.Core.Logic.{⊎_elim}
 use native.Mathlib.Nat.{mul_assoc, mul_right_comm, mul-le-mul_right, le_trans, le_of_eq, le_of_mul-le-mul_right}
 use native.Mathlib.Omega.{arith}
 use native.Mathlib.Decide.{dec_le}
 use lib.Dec.{T, ltb, eqb}
 use lib.IntN.{pos}
 use lib.Pow.{pow_pos}
-use lib.Ieee.{Float, nan, inf, fin, binary32, up as up_power, down as down_power, fits, to_bits, le}
+use lib.Ieee.{Float, nan, inf, fin, binary32, up as up_power, down as down_power, fits, to_bits, le, lt, eq}
 use lib.Ieee.Fits.{down_pos}
 use lib.Ieee.Scale.{finite}
 use lib.Ieee.Positive.{num, den, den_pos}
+use Rattle.std.proofs.lemmas.Bool.{and_cases}
 use Rattle.std.proofs.lemmas.Bool.Decides.{nat_tests}
+use Rattle.std.proofs.Common.{Less, Equal, Greater}
+use Rattle.std.specs.Ordering.{partial_le, float_partial_cmp, is_some_and, is_le}
+use Rattle.std.specs.declared.ops.RangeInclusive.{RangeInclusive}
+use Rattle.std.specs.Range.{range_inclusive_start, range_inclusive_end, range_inclusive_exhausted, range_inclusive_contains}
 use borrow.Author.Tests.{lt-ltb}
-use Rattle.std.specs.Prelude.{Ok, Err}
+use Rattle.std.specs.Prelude.{Ok, Err, Some, None}
 use Rattle.site.specs.declared.Rule.TheVariants.{BadConcentration}
+use Rattle.site.proofs.Tests.{and_l, and_r}
 use Rattle.loads.specs.Rounding.{up}
 use Rattle.loads.proofs.Numbers.{up_le, up_enough}
 use Rattle.sampler.specs.Micrograms.{most_micrograms, size_taken, concentration_of}
@@ -45,7 +52,7 @@ micrograms_le (fin s m e) = go s (m * up_power e) (down_power e) (down_pos e)
     go : (s : Bool) (a c : ℕ) → 0 < c → micrograms (size_taken s a c) ≤ 1000000
     go s a c p = grind (arith, nat_tests, up_le (1000 * a) c 1000000 p)
 
--- ---- the two tests of the code, `x >= 0.0` and `x <= 1000.0`
+-- ---- the test of the code, `(0.0..=1000.0).contains(&x)`, by its two parts
 
 abbrev pub zero_f : Float
 zero_f = fin false 0 (pos 0)
@@ -98,6 +105,27 @@ above_most (fin false m e) h = above (m * up_power e) (down_power e) h
 above_most (fin true m e) h =
     let p = down_pos e in
     absurd (true≢false (sym (rw (lt-ltb 0 (m * up_power e * 1 + 1000 * down_power e) (omega arith))) ∙ h))
+
+-- `contains` compares by `partial_cmp`
+partial_le_is : (x y : Float) → partial_le float_partial_cmp x y ≡ le x y
+unfolding le
+partial_le_is x y = go (lt x y) (eq x y) (lt y x)
+  where
+    go : (a b c : Bool) → is_some_and is_le (cond a (Some Less) (cond b (Some Equal) (cond c (Some Greater) None))) ≡ (a || b)
+    go true b c = refl
+    go false true c = refl
+    go false false true = refl
+    go false false false = refl
+
+module _ (r : RangeInclusive Float) (x : Float) (start : range_inclusive_start r ≡ zero_f) (end : range_inclusive_end r ≡ thousand_f) (new : range_inclusive_exhausted r ≡ false) where
+  both : range_inclusive_contains float_partial_cmp r x ≡ (le zero_f x && le x thousand_f)
+  both = rw (start, end, new, partial_le_is zero_f x, partial_le_is x thousand_f)
+
+  pub contained : range_inclusive_contains float_partial_cmp r x ≡ true → Inside x
+  contained h = let w = sym both ∙ h in inside x (and_l _ _ w) (and_r _ _ w)
+
+  pub not_contained : range_inclusive_contains float_partial_cmp r x ≡ false → concentration_of x ≡ Err BadConcentration
+  not_contained h = ⊎_elim (below_zero x) (above_most x) (and_cases _ _ (sym both ∙ h))
 
 -- ---- by the bits
 

@@ -46,9 +46,5 @@ unfoldable pub nitrogen_of : Month → ℕ
 nitrogen_of m = m.rain * (micrograms (reading_of m.nitrate) + micrograms (reading_of m.ammonium))
 
 -- what the code gives for a month
-abbrev pub deposition_by : Checked → (sulphur nitrogen : ℕ) → Result Deposition Rule
-deposition_by (Ok tt) s n = Ok (record { sulphur = s; nitrogen = n })
-deposition_by (Err rule) s n = Err rule
-
 abbrev pub deposition_of : Month → Result Deposition Rule
-deposition_of m = deposition_by (month_rule m) (sulphur_of m) (nitrogen_of m)
+deposition_of m = and_then (month_rule m) (Ok (record { sulphur = sulphur_of m; nitrogen = nitrogen_of m }))

@@ -28,7 +28,6 @@ year_answer s (Ok p) = keyed p (judgement_answer (with_pair s p))
 year_answer s (Err refusal) = Err refusal
 
 unfoldable pub sample_answer : Site → List Month → Result Sampled Refusal
--- the checks of the site come first
 sample_answer s ms = unless (site_rule s) 0 (year_answer s (year_of ms))
 
 -- what is given: the pair of the months, and the judgement of the same site with this pair put into its field 0F

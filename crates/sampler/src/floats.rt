@@ -28,11 +28,11 @@ fn scaled_bits(b: u64) -> u64
     }
 }
 
-// µg per litre, or rule 12. The first test is false at a NaN and true at minus zero.
+// µg per litre, or rule 12. A NaN is outside the range, and minus zero within it.
 pub fn concentration_of(x: f32) -> Result<u64, Rule>
     ensures { result ≡ concentration_of x }
 {
-    if x >= 0.0 && x <= 1000.0 {
+    if (0.0..=1000.0).contains(&x) {
         return Ok(scaled_bits(u64::from(x.to_bits())));
     }
     Err(Rule::BadConcentration)

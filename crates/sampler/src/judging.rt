@@ -43,6 +43,7 @@ pub fn refuse_checked(site: Site, refusal: Refusal) -> Result<Sampled, Refusal>
     Err(refusal)
 }
 
+// A refusal stands at 0 for the site, at the month's index, or at 12 for the year.
 // The year comes first: where it has a pair, the judgement's own check is the site's, so that a site is checked once.
 pub fn judge_months(site: Site, months: [Month; 12]) -> Result<Sampled, Refusal>
     ensures answer { result ≡ sample_answer site months }

@@ -7,7 +7,7 @@ use crate::{Month, Pair};
 use site::{Refusal, Rule};
 
 // The sums of the year in µg per square metre, divided, up.
-#[tactic(auto, using(crate::proofs::QuotientLaws::up_div_ceil))]
+#[tactic(auto, using(loads::proofs::Numbers::up_is))]
 fn divided(sum: Deposition) -> Result<Pair, Refusal>
     ensures { result ≡ divided_pair sum.sulphur sum.nitrogen }
 {
@@ -20,7 +20,7 @@ fn divided(sum: Deposition) -> Result<Pair, Refusal>
     Ok(Pair { sulphur, nitrogen })
 }
 
-#[tactic(auto, unfolding(crate::specs::YearPair::year_of, site::specs::Refusal::unless))]
+#[tactic(auto, using(crate::proofs::YearLaws::onward_start, crate::proofs::YearLaws::onward_stop, crate::proofs::YearLaws::onward_step), unfolding(site::specs::Refusal::and_then))]
 pub fn year_pair(months: [Month; 12]) -> Result<Pair, Refusal>
     ensures { result ≡ year_of months }
 {

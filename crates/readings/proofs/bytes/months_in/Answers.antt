@@ -1,3 +1,4 @@
+-- The search finds the equation for a few elements, and not for twelve.
 use Rattle.std.proofs.Common.{◌≡◌, ◌*◌, refl, rules}
 use Rattle.site.specs.Bytes.{tabulate}
 use Rattle.readings.specs.MonthBytes.{month_at}
