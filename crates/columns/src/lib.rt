@@ -1,4 +1,4 @@
-// A line of a page: the header, or a row, in columns of fixed width.
+// A line of a page: the header, or a row, in columns of fixed width. What puts a line takes a buffer and an index, as in `text`.
 #![tactic(auto)]
 
 mod column;
