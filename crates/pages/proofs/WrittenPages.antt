@@ -39,8 +39,8 @@ chunk rs n {xs} {p} {q} d e l h =
     }
 
 -- one row more on a page
-pub rows_more : (rs : List Row) (i : ℕ) (d : Row) → i < length rs → flat_map ended (map row_line (take (i + 1) rs)) ≡ flat_map ended (map row_line (take i rs)) ++ ended (row_line (get_or rs i d))
-rows_more rs i d h = rw (take_more rs i d h, map-append, each_append, append-nil)
+pub row_more : (rs : List Row) (i : ℕ) (d : Row) → i < length rs → flat_map ended (map row_line (take (i + 1) rs)) ≡ flat_map ended (map row_line (take i rs)) ++ ended (row_line (get_or rs i d))
+row_more rs i d h = rw (take_more rs i d h, map-append, each_append, append-nil)
 
 -- one page more
 pub page_more : (rs : List Row) (n : ℕ) → flat_map ended (lines_to rs (n + 1)) ≡ flat_map ended (lines_to rs n) ++ ended head_line ++ flat_map ended (map row_line (take 59 (drop (59 * n) rs)))
