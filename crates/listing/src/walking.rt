@@ -1,5 +1,5 @@
 // The walk over a file: each record is read and judged once.
-ghost use Rattle.std.specs.Prelude.{◌≡◌, ℕ, Ok, Err, MatchResult};
+ghost use Rattle.std.specs.Prelude.{◌≡◌, Ok, Err, MatchResult};
 ghost use Rattle.record.specs.Outer.{site_at};
 ghost use Rattle.record.specs.File.{contents};
 ghost use Rattle.record.specs.Result.{result_numbers};
