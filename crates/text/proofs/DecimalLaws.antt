@@ -69,7 +69,7 @@ printed (suc m) h =
 
 -- ---- how many digits, by powers of ten
 
-length-pos : (n : ℕ) → 1 ≤ length (decimal n)
+pub length-pos : (n : ℕ) → 1 ≤ length (decimal n)
 length-pos n = go (ltb n 10) refl
   where
     go : (b : Bool) → ltb n 10 ≡ b → 1 ≤ length (decimal n)
