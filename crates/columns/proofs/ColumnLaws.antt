@@ -1,10 +1,11 @@
 -- What is read back from the columns of a line.
 use Prim.Native.Nat.{ℕ, zero, suc, ◌-◌, ◌≤◌}
 use mathlib.Core.Path.{◌≡◌, refl, sym, ap, ◌∙◌}
-use mathlib.Core.Bool.{true}
+use mathlib.Core.Bool.{true, false}
 use mathlib.Core.List.{List, [], ◌∷◌, ◌++◌, append_assoc, append-nil, map}
 use Rattle.std.specs.Prelude.{◌==◌, not}
 use Rattle.std.proofs.lemmas.List.Elements.{filter-append}
+use lib.Dec.{eqb}
 use lib.ListN.{length, take, replicate}
 use lib.Seq.{take_all, take-append_seam, drop-append_seam}
 use Rattle.std.specs.List.{flat_map}
@@ -15,6 +16,14 @@ use Rattle.columns.specs.LineRead.{cut, unspaced, column_widths, columns_of}
 use Rattle.columns.proofs.PageLineLaws.{length_left, length_right}
 
 -- ---- spaces dropped
+
+unspaced_drops : (x : ℕ) (xs : List ℕ) → eqb x 32 ≡ true → unspaced (x ∷ xs) ≡ unspaced xs
+unfolding unspaced
+unspaced_drops x xs e = rw e
+
+unspaced_keeps : (x : ℕ) (xs : List ℕ) → eqb x 32 ≡ false → unspaced (x ∷ xs) ≡ x ∷ unspaced xs
+unfolding unspaced
+unspaced_keeps x xs e = rw e
 
 unspaced-append : (xs ys : List ℕ) → unspaced (xs ++ ys) ≡ unspaced xs ++ unspaced ys
 unfolding unspaced
@@ -30,7 +39,7 @@ unfolding unspaced
 unspaced-free [] h = refl
 unspaced-free (x ∷ xs) h =
     let f = free_false 32 x xs h in
-    rw f.0 (ap (λ (l : List ℕ). x ∷ l) (unspaced-free xs f.1))
+    unspaced_keeps x xs f.0 ∙ ap (λ (l : List ℕ). x ∷ l) (unspaced-free xs f.1)
 
 -- a text that its column does not cut
 pub record Whole (w : ℕ) (t : List ℕ) : Type 0 where

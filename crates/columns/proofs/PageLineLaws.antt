@@ -1,11 +1,12 @@
 -- A line of a page has 64 characters and one end.
-use Prim.Native.Nat.{ℕ, zero, suc, ◌+◌, ◌-◌}
-use mathlib.Core.Path.{◌≡◌, refl}
+use Prim.Native.Nat.{ℕ, zero, suc, ◌+◌, ◌-◌, ◌≤◌, ◌<◌}
+use mathlib.Core.Path.{◌≡◌, refl, ◌∙◌}
 use mathlib.Core.Bool.{true}
-use mathlib.Core.List.{List, [], ◌∷◌, ◌++◌, append_assoc, append-nil}
+use mathlib.Core.List.{List, [], ◌∷◌, ◌++◌, append_assoc, append-nil, map}
 use native.Mathlib.Omega.{arith}
-use lib.ListN.{length, get_or, take, replicate, length-append, length-take, length-replicate}
-use lib.Seq.{get_or_at}
+use lib.ListN.{length, get_or, take, replicate, length-append, length-map, length-take, length-replicate, get_or-append}
+use lib.Seq.{get_or_at, take_all}
+use Rattle.std.proofs.lemmas.List.{get_or-map}
 use borrow.Author.Tests.{eqb-false}
 use Rattle.loads.specs.CriticalLoads.{load_numbers}
 use Rattle.judgement.specs.declared.Verdict.{Verdict}
@@ -65,27 +66,67 @@ head_bytes = refl
 
 -- ---- the texts of a line
 
--- what holds of every seven numbers holds of a row's
-by_seven : (r : Row) (P : List ℕ → Type 0) → ((a b c d e f g : ℕ) → P (a ∷ b ∷ c ∷ d ∷ e ∷ f ∷ g ∷ [])) → P (numbers_of r)
+pub seven_of : (r : Row) → length (numbers_of r) ≡ 7
 unfolding numbers_of load_numbers verdict_numbers
-by_seven r P h = by_verdict r.verdict
+seven_of r = by_verdict r.verdict
   where
-    by_verdict : (v : Verdict) → P (load_numbers r.loads ++ verdict_numbers v)
-    by_verdict Within = h _ _ _ _ _ _ _
-    by_verdict (Over g a n) = h _ _ _ _ _ _ _
+    by_verdict : (v : Verdict) → length (load_numbers r.loads ++ verdict_numbers v) ≡ 7
+    by_verdict Within = refl
+    by_verdict (Over g a n) = refl
 
--- the line as it is written
-seven_bytes : (name mark : List ℕ) (a b c d e f g : ℕ)
-    → ended (page_line (line_texts name (a ∷ b ∷ c ∷ d ∷ e ∷ f ∷ g ∷ []) mark)) ≡ left_in 8 name ++ number_columns (a ∷ b ∷ c ∷ d ∷ e ∷ f ∷ g ∷ []) ++ (right_in 7 mark ++ codes " \n")
-unfolding ended page_line in_columns line_texts number_columns
-seven_bytes name mark a b c d e f g = simp (append_assoc, append-nil)
+-- what holds of every seven numbers holds of a list of that length
+of_seven : (P : List ℕ → Type 0) → ((a b c d e f g : ℕ) → P (a ∷ b ∷ c ∷ d ∷ e ∷ f ∷ g ∷ [])) → (ns : List ℕ) → length ns ≡ 7 → P ns
+of_seven P h (a ∷ b ∷ c ∷ d ∷ e ∷ f ∷ g ∷ []) s = h a b c d e f g
+of_seven P h [] s = absurd (omega arith)
+of_seven P h (a ∷ []) s = absurd (omega arith)
+of_seven P h (a ∷ b ∷ []) s = absurd (omega arith)
+of_seven P h (a ∷ b ∷ c ∷ []) s = absurd (omega arith)
+of_seven P h (a ∷ b ∷ c ∷ d ∷ []) s = absurd (omega arith)
+of_seven P h (a ∷ b ∷ c ∷ d ∷ e ∷ []) s = absurd (omega arith)
+of_seven P h (a ∷ b ∷ c ∷ d ∷ e ∷ f ∷ []) s = absurd (omega arith)
+of_seven P h (a ∷ b ∷ c ∷ d ∷ e ∷ f ∷ g ∷ x ∷ ns) s = absurd (omega arith)
+
+module _ (name ns mark : List ℕ) (seven : length ns ≡ 7) where
+  texts_length : length (map decimal ns) ≡ 7
+  texts_length = length-map ns decimal ∙ seven
+
+  text_name : get_or (line_texts name ns mark) 0 [] ≡ name
+  unfolding line_texts
+  text_name = refl
+
+  text_number : (k : ℕ) → k < 7 → get_or (line_texts name ns mark) (suc k) [] ≡ decimal (get_or ns k 0)
+  unfolding line_texts
+  text_number k h =
+      get_or-append (map decimal ns) (mark ∷ []) [] k (omega (arith, texts_length))
+      ∙ get_or-map decimal ns k 0 [] (omega (arith, seven))
+
+  text_mark : get_or (line_texts name ns mark) 8 [] ≡ mark
+  unfolding line_texts
+  text_mark = get_or_at (map decimal ns) mark [] [] 7 texts_length
+
+  -- the line as it is written
+  pub line_bytes : ended (page_line (line_texts name ns mark)) ≡ left_in 8 name ++ number_columns ns ++ (right_in 7 mark ++ codes " \n")
+  unfolding ended page_line in_columns line_texts number_columns
+  line_bytes =
+      of_seven
+      (λ ns. ended (page_line (line_texts name ns mark)) ≡ left_in 8 name ++ number_columns ns ++ (right_in 7 mark ++ codes " \n"))
+      (λ a b c d e f g. simp (append_assoc, append-nil))
+      ns
+      seven
 
 pub row_bytes : (r : Row) → ended (row_line r) ≡ left_in 8 (name_text r) ++ number_columns (numbers_of r) ++ (right_in 7 (verdict_word r.verdict) ++ codes " \n")
 unfolding row_line row_texts
-row_bytes r =
-    by_seven r
-    (λ ns. ended (page_line (line_texts (name_text r) ns (verdict_word r.verdict))) ≡ left_in 8 (name_text r) ++ number_columns ns ++ (right_in 7 (verdict_word r.verdict) ++ codes " \n"))
-    (seven_bytes (name_text r) (verdict_word r.verdict))
+row_bytes r = line_bytes (name_text r) (numbers_of r) (verdict_word r.verdict) (seven_of r)
+
+-- a name that its column does not cut
+pub left_short : (w : ℕ) (t : List ℕ) → length t ≤ w → left_in w t ≡ t ++ replicate (w - length t) 32
+unfolding left_in
+left_short w t h = rw (take_all w t h)
+
+-- the columns of all the numbers
+pub columns_whole : (ns : List ℕ) → length ns ≡ 7 → length (number_columns ns) ≡ 48
+unfolding number_columns
+columns_whole = of_seven (λ ns. length (number_columns ns) ≡ 48) (λ a b c d e f g. simp (length-append, length_right))
 
 -- ---- a line has one end
 
@@ -123,6 +164,8 @@ free_head = refl
 pub free_row : (r : Row) → free 10 (name_text r) ≡ true → free 10 (row_line r) ≡ true
 unfolding row_line row_texts
 free_row r h =
-    by_seven r
+    of_seven
     (λ ns. free 10 (page_line (line_texts (name_text r) ns (verdict_word r.verdict))) ≡ true)
     (free_line (name_text r) (verdict_word r.verdict) h (free_mark r.verdict).0)
+    (numbers_of r)
+    (seven_of r)

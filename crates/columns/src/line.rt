@@ -1,6 +1,5 @@
 // The lines of a page.
 ghost use Rattle.std.specs.Prelude.{◌≡◌, length};
-ghost use Rattle.judgement.specs.Verdicts.{verdict_word};
 ghost use Rattle.output.specs.Writing.{WroteIf};
 ghost use Rattle.columns.specs.PageLine.{head_line, number_columns, row_line, ended};
 

@@ -5,9 +5,8 @@ use mathlib.Core.List.{List, [], ◌∷◌, ◌++◌, map, append-nil}
 use native.Mathlib.Omega.{arith}
 use lib.ListN.{length, length-append}
 use lib.Seq.{append_snoc}
-use Rattle.std.specs.Prelude.{Ok, Err}
+use Rattle.std.specs.Prelude.{Result, Ok, Err}
 use Rattle.site.specs.Ranges.{most_records}
-use Rattle.site.specs.Refusal.{rule_number}
 use Rattle.site.specs.declared.Site.{Site}
 use Rattle.site.specs.declared.Refusal.{Refusal}
 use Rattle.site.specs.declared.Rule.TheVariants.{TooMany}
@@ -94,20 +93,14 @@ module _ {f : List ℕ} {rows : List Row} {at : ℕ} (so : SoFar f rows at) wher
     pub so_on : {t : Step} → step_of (site_at f at) ≡ Ok t → at < t.next
     so_on e = omega (arith, site_after f at (step_ok (site_at f at) e).is)
 
--- a fault of the file, as the call answers it
-module _ (f : List ℕ) {r : Refusal} (e : contents f ≡ Err r) where
-  pub fault_walked : walked_of (contents f) ≡ Err r
-  unfolding walked_of
-  fault_walked = rw e
-
-  pub fault_numbers : (rule_number r.rule, r.at) ≡ result_numbers (contents f)
-  unfolding result_numbers
-  fault_numbers = rw e
-
-ok_numbers : (c : Contents Site) {rows : List Row} → walked_of c ≡ Ok rows → (0, 0) ≡ result_numbers c
+-- an answer, and its numbers
+pub walked_numbers : (c : Contents Site) → result_numbers (walked_of c) ≡ result_numbers c
 unfolding walked_of result_numbers
-ok_numbers (Ok ss) e = refl
-ok_numbers (Err r) e = cc
+walked_numbers (Ok ss) = refl
+walked_numbers (Err r) = refl
 
-pub rows_numbers : (f : List ℕ) {rows : List Row} → walked_of (contents f) ≡ Ok rows → (0, 0) ≡ result_numbers (contents f)
-rows_numbers f e = ok_numbers (contents f) e
+pub with_numbers : {w : Result (List Row) Refusal} (c : Contents Site) → w ≡ walked_of c → (w ≡ walked_of c) × (result_numbers w ≡ result_numbers c)
+with_numbers c e = (e, ap result_numbers e ∙ walked_numbers c)
+
+pub with_fault : {w : Result (List Row) Refusal} {c : Contents Site} {r : Refusal} → c ≡ Err r → w ≡ walked_of (Err r) → (w ≡ walked_of c) × (result_numbers w ≡ result_numbers c)
+with_fault {w} {c} e r = with_numbers c (r ∙ ap walked_of (sym e))

@@ -1,5 +1,5 @@
 // The walk over a file: each record is read and judged once.
-ghost use Rattle.std.specs.Prelude.{◌≡◌, ℕ, Ok, Err, MatchResult};
+ghost use Rattle.std.specs.Prelude.{◌≡◌, Ok, Err, MatchResult};
 ghost use Rattle.record.specs.Outer.{site_at};
 ghost use Rattle.record.specs.File.{contents};
 ghost use Rattle.record.specs.Result.{result_numbers};
@@ -49,6 +49,7 @@ pub fn walk_file(file: &[u8]) -> Result<ArrayVec<Row, 500>, Refusal>
     }
     let mut rows = ArrayVec::new();
     let mut at = 0;
+    // no index is counted: each record says where the next starts
     while at < file.len() {
         if rows.is_full() {
             let rule = Rule::TooMany;

@@ -11,7 +11,7 @@ use Rattle.std.specs.Prelude.{Ok, Err, flat_map}
 use Rattle.output.specs.Output.{held}
 use Rattle.output.specs.Writing.{Wrote}
 use Rattle.output.proofs.EachLaws.{each_append}
-use Rattle.output.proofs.WritingLaws.{kept}
+use Rattle.output.proofs.WritingLaws.{nothing, kept}
 use Rattle.text.specs.declared.Row.{Row}
 use Rattle.text.specs.TextAnswer.{text_answer}
 use Rattle.text.proofs.TextAnswers.{text_refused, text_printed}
@@ -39,8 +39,8 @@ chunk rs n {xs} {p} {q} d e l h =
     }
 
 -- one row more on a page
-pub rows_more : (rs : List Row) (i : ℕ) (d : Row) → i < length rs → flat_map ended (map row_line (take (i + 1) rs)) ≡ flat_map ended (map row_line (take i rs)) ++ ended (row_line (get_or rs i d))
-rows_more rs i d h = rw (take_more rs i d h, map-append, each_append, append-nil)
+pub row_more : (rs : List Row) (i : ℕ) (d : Row) → i < length rs → flat_map ended (map row_line (take (i + 1) rs)) ≡ flat_map ended (map row_line (take i rs)) ++ ended (row_line (get_or rs i d))
+row_more rs i d h = rw (take_more rs i d h, map-append, each_append, append-nil)
 
 -- one page more
 pub page_more : (rs : List Row) (n : ℕ) → flat_map ended (lines_to rs (n + 1)) ≡ flat_map ended (lines_to rs n) ++ ended head_line ++ flat_map ended (map row_line (take 59 (drop (59 * n) rs)))
@@ -68,6 +68,10 @@ length-pages rs = omega (arith, length_to_page rs (page_count (length rs)))
 pub page_room : {rs : List Row} {n : ℕ} {p q : List Row} → Chunk rs n p q → {d out : List ℕ} {o : ℕ} → Wrote d 0 (flat_map ended (lines_to rs n)) out o
     → 65 * (length rs + page_count (length rs)) ≤ length d → o + 65 * (1 + length p) ≤ length out
 page_room {rs} {n} x w h = omega (arith, x.more, x.within, w.next, kept w, length_to_page rs n)
+
+pub nothing_paged : (d : List ℕ) → Wrote d 0 (pages []) d 0
+unfolding pages lines_to
+nothing_paged d = nothing d 0
 
 -- the answer and the buffer, where the pages do not fit and where they are written
 module _ (rs : List Row) where

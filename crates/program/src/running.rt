@@ -11,7 +11,7 @@ use crate::reader::read_all;
 use std::io::{self, Read, Write};
 
 // Reads a file to its end and writes its report, or nothing after a failed read. `whole` and `failed` are for readers and writers of which it is known
-// what they have left and what they hold.
+// what they have left and what they hold. The buffers are fixed memory: nothing is allocated.
 pub fn run<R: Read, W: Write>(reader: &mut R, writer: &mut W) -> io::Result<Input>
     ensures read { IfOk result (λ i. ReadAll 129001 i) }
     ensures whole { IfOk result (λ i. IfSome (R.remaining reader.old) (λ f. i.reading ≢ Failed → Appends (W.contents writer.old) (W.contents writer.new) (report_of f))) }

@@ -17,7 +17,8 @@ use Rattle.text.specs.Line.{blank_row, numbers_of, name_text, spaced, column, bo
 use Rattle.text.specs.Listing.{head_text, header, listing}
 use Rattle.text.specs.Words.{split, last_word, line_at, free}
 use Rattle.text.specs.Marks.{Plain, Marked}
-use Rattle.text.proofs.TextAnswers.{AnsweredWithin, written}
+use Rattle.text.specs.TextAnswer.{RoomEnough}
+use Rattle.text.proofs.TextAnswers.{AnsweredWithin, Answered, Clauses, clauses_then, written}
 use Rattle.text.proofs.WordLaws.{split_at, split-free, split-each, free-cons, free-append, free-decimal, free-each, last_word-spaced}
 
 pub free_mark : (v : Verdict) → (free 10 (verdict_word v) ≡ true) × (free 32 (verdict_word v) ≡ true)
@@ -98,3 +99,8 @@ mark_of rs k h l = ap last_word (line_of rs k h l) ∙ body_mark (get_or rs k bl
 -- the same of what a call has written
 pub marked : {most : ℕ} (rs : List Row) (d e : List ℕ) (r : Written) → AnsweredWithin most (listing rs) d e r → Marked rs e r
 marked rs d e r a n k b p l = rw (written (listing rs) d e r a.answer a.buffer n b) (mark_of rs k p l)
+
+-- the clauses of a call that lists
+pub and_marked : (rs : List Row) (d : List ℕ) {e : List ℕ} {r : Written} → Answered (listing rs) d e r
+    → Clauses (listing rs) d e r (RoomEnough (listing rs) d r × Marked rs e r)
+and_marked rs d {e} {r} a = clauses_then a (marked rs d e r a)

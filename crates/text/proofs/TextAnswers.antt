@@ -31,6 +31,9 @@ abbrev pub Clauses : (text d e : List ℕ) → Written → Type 0 → Type 0
 Clauses text d e r Last = (r ≡ text_answer text d) × ((e ≡ held text d) × ((written_numbers r ≡ held_numbers text d) × Last))
 
 module _ {most : ℕ} {text d e : List ℕ} {r : Written} where
+  pub as_clauses : AnsweredWithin most text d e r → Clauses text d e r (RoomWithin most text d r)
+  as_clauses a = (a.answer, (a.buffer, (a.numbers, a.enough)))
+
   pub clauses_then : {More : Type 0} → AnsweredWithin most text d e r → More → Clauses text d e r (RoomWithin most text d r × More)
   clauses_then a m = (a.answer, (a.buffer, (a.numbers, (a.enough, m))))
 

@@ -6,7 +6,7 @@ use Rattle.judgement.specs.Verdicts.{verdict_numbers, verdict_word}
 use Rattle.text.specs.declared.Row.{Row}
 use Rattle.text.specs.Decimal.{decimal}
 
--- what stands in an array past its rows
+-- what `get_or` gives where there is no row
 unfoldable pub blank_row : Row
 blank_row =
     record {

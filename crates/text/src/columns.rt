@@ -36,7 +36,7 @@ fn put_number(out: &mut [u8], at: usize, n: u64) -> usize
     put_decimal(out, at + 1, n)
 }
 
-// Writes the numbers, each after a space.
+// Writes the numbers, each after a space. `put_lines` is its twin: one function over a closure that lends the buffer is no plainer.
 #[tactic(auto, using(output::proofs::WritingLaws::nothing, output::proofs::EachLaws::next_fits, output::proofs::EachLaws::next_written))]
 pub fn put_numbers(out: &mut [u8], mut at: usize, ns: [u64; 7]) -> usize
     requires { at + length (flat_map column ns) ≤ length out.old }
@@ -48,7 +48,7 @@ pub fn put_numbers(out: &mut [u8], mut at: usize, ns: [u64; 7]) -> usize
     at
 }
 
-// How many bytes put_numbers writes.
+// How many bytes put_numbers writes; a `sum` would need a proof that it fits and one of its value.
 #[tactic(auto, using(crate::proofs::LineLaws::line_lengths), unfolding(crate::specs::Line::column, crate::specs::Line::spaced))]
 pub fn numbers_len(ns: [u64; 7]) -> usize
     ensures { (result ≡ length (flat_map column ns)) × (result ≤ 147) }

@@ -5,7 +5,7 @@ ghost use Rattle.output.specs.Writing.{WroteIf};
 
 use itoa::write_digits;
 
-// How many decimal digits n has; std has no ilog10.
+// How many decimal digits n has: they are counted, since std has no ilog10.
 #[tactic(auto, using(crate::proofs::DecimalLaws::widths))]
 pub fn width(n: u64) -> usize
     ensures { (result ≡ length (decimal n)) × (result ≤ 20) }

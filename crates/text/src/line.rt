@@ -1,9 +1,9 @@
 // A row's line.
-ghost use Rattle.std.specs.Prelude.{◌≡◌, ◌+◌, ◌≤◌, length, take};
+ghost use Rattle.std.specs.Prelude.{◌≡◌, ◌+◌, ◌≤◌, length};
 ghost use Rattle.text.specs.TextLengths.{most_line};
 ghost use Rattle.output.specs.Writing.{Wrote};
 ghost use Rattle.judgement.specs.Verdicts.{verdict_word};
-ghost use Rattle.text.specs.Line.{name_text, spaced, line};
+ghost use Rattle.text.specs.Line.{spaced, line};
 
 use crate::Row;
 use crate::columns::{numbers, numbers_len, put_numbers};

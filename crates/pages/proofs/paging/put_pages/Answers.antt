@@ -4,7 +4,7 @@ use Rattle.std.proofs.lemmas.List.{length_push}
 use Rattle.output.proofs.WritingLaws.{nothing, then}
 use Rattle.columns.proofs.PageLineLaws.{length_head, length_row}
 use Rattle.pages.specs.Pages.{pages, page_count, lines_to}
-use Rattle.pages.proofs.WrittenPages.{chunk, rows_more, page_more, length_rows, page_room, pages_short, pages_put}
+use Rattle.pages.proofs.WrittenPages.{chunk, row_more, page_more, length_rows, page_room, pages_short, pages_put}
 use Rattle.pages.proofs.paging.put_pages.Goals as goal
 
 pub returns-then-out-need : goal.returns-then-out-need
@@ -31,7 +31,7 @@ loop-row-preserved c =
     let inside : i < length page = omega arith in
     let used = length-take-le i page (omega arith) in
     let w = c.put_row-o.ensures.fits (omega (arith, h.next, length_head, length_rows (take i page), length_row)) in
-    rw (← rows_more) at (then c.loop-row.invariant w)
+    rw (← row_more) at (then c.loop-row.invariant w)
 
 pub loop-page-preserved : goal.loop-page-preserved
 loop-page-preserved c =

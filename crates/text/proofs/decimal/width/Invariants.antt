@@ -1,6 +1,6 @@
 -- The digits that are counted, and those of rest.
 use Rattle.std.proofs.Common.{◌≡◌, ◌+◌, length}
-use Rattle.std.specs.Fmt.{decimal}
+use Rattle.text.specs.Decimal.{decimal}
 use Rattle.text.proofs.decimal.width.Given as goal
 
 abbrev pub invariant-loop-rest : goal.invariant-loop-rest
