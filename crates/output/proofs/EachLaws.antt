@@ -1,4 +1,4 @@
--- Laws of `each`, and of a loop that writes the text of each element.
+-- Laws of `flat_map`, and of a loop that writes the text of each element.
 use Prim.Native.Nat.{ℕ, ◌+◌, ◌-◌, ◌≤◌, ◌<◌}
 use mathlib.Core.Path.{◌≡◌, ap, ◌∙◌}
 use mathlib.Core.List.{List, ◌++◌, append-nil}
