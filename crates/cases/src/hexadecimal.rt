@@ -1,7 +1,11 @@
 // Bytes that stand in a line as hexadecimal digits.
+ghost use Rattle.std.specs.Prelude.{◌≤◌, IfSome};
+
 use arrayvec::ArrayVec;
 
-fn digit_value(b: u8) -> Option<u8> {
+fn digit_value(b: u8) -> Option<u8>
+    ensures { IfSome result (λ d. d ≤ 15) }
+{
     match b {
         b'0'..=b'9' => Some(b - b'0'),
         b'A'..=b'F' => Some(b - b'A' + 10),

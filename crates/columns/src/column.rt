@@ -3,7 +3,7 @@ ghost use Rattle.std.specs.Prelude.{◌≡◌, length};
 ghost use Rattle.text.specs.Decimal.{decimal};
 ghost use Rattle.columns.specs.PageLine.{left_in, right_in};
 
-use text::put_decimal;
+use itoa::Buffer;
 
 // A text aligned left, cut to its first characters where the column is narrower, and spaces behind it.
 pub fn put_left(column: &mut [u8], text: &[u8])
@@ -24,10 +24,9 @@ pub fn put_right(column: &mut [u8], text: &[u8])
     column[at..].copy_from_slice(&text[..n]);
 }
 
+#[tactic(auto, using(text::proofs::DecimalLaws::printed))]
 pub fn put_number(column: &mut [u8], n: u64)
     ensures { column.new ≡ right_in (length column.old) (decimal n) }
 {
-    let mut digits = [0u8; 20];
-    let count = put_decimal(&mut digits, 0, n);
-    put_right(column, &digits[..count]);
+    put_right(column, Buffer::new().format(n).as_bytes());
 }

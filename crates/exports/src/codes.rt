@@ -8,7 +8,7 @@ use site::Refusal;
 pub fn written_code(written: Result<usize, Refusal>) -> u64
     ensures { result ≡ written_code written }
 {
-    // `usize` and `u64` have no `From`
+    // `usize` and `u64` have no `From`, and `try_from` would bring a refusal that cannot come
     match written {
         Ok(n) => n as u64,
         Err(Refusal { rule, at }) => {

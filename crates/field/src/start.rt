@@ -1,4 +1,4 @@
-// The blank site, which reading starts from: field by field, since a derived `Default` was not shown to give it.
+// The blank site, which reading starts from: field by field. A derived `Default` needs a law of arrays and an answer that names each field again.
 ghost use Rattle.std.specs.Prelude.{◌≡◌};
 ghost use Rattle.field.specs.Field.{blank_site};
 

@@ -18,7 +18,7 @@ fn store(site: &mut Site, tag: u8, value: &[u8])
         1 => {
             site.name = Name {
                 bytes: name_in(value),
-                // a permitted length fits: a name has at most 8 bytes, a stand at most 16
+                // a permitted length is at most 8: `try_from` would bring a refusal that cannot come
                 len: value.len() as u8,
             }
         }
@@ -33,6 +33,7 @@ fn store(site: &mut Site, tag: u8, value: &[u8])
         7 => {
             site.stand = Stand {
                 entries: entries_in(value),
+                // and at most 16 of a stand
                 count: (value.len() / 4) as u8,
             }
         }

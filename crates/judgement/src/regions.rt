@@ -9,7 +9,7 @@ impl From<Region> for u64 {
     ghost from_gives = { λ region n. n ≡ region_number region };
 
     fn from(region: Region) -> u64 {
-        // the number of its case
+        // the number of its case, which a match would only write out
         region as u64
     }
 }

@@ -17,7 +17,7 @@ impl Texture {
     pub fn place(self) -> usize
         ensures { (result + 1 ≡ texture_number self) × (result ≤ 4) }
     {
-        // its place among the cases
+        // its place among the cases, which a match would only write out
         self as usize
     }
 }

@@ -45,7 +45,7 @@ fn weighed(entry: Entry) -> Sums
     }
 }
 
-// summed over entries
+// summed over entries: their bounds are asked here alone, where the check of the site has just given them
 pub fn stand_sums(entries: &[Entry]) -> Sums
     requires { StandBounds entries.now (length entries.now) }
     ensures nitrogen { result.nitrogen ≡ sum_by (weight_of nitrogen_in) entries.now }

@@ -1,5 +1,5 @@
 -- Reading and writing undo each other.
-use mathlib.Core.Path.{◌≡◌, sym, ap, ◌∙◌}
+use mathlib.Core.Path.{◌≡◌, refl, sym, ap, ◌∙◌}
 use mathlib.Core.Bool.{true, false}
 use mathlib.Core.List.{List, [], append-nil}
 use Prim.Native.Nat.{ℕ, ◌+◌, ◌-◌, ◌≤◌}
@@ -19,7 +19,7 @@ use Rattle.record.specs.Result.{result_numbers}
 use Rattle.record.specs.declared.Found.{Found}
 use Rattle.record.specs.Records.{most_record, record_in, only_one, single}
 use Rattle.record.specs.Outer.{site_tag, site_kinds, site_at, record_at, read_record}
-use Rattle.record.specs.File.{alone}
+use Rattle.record.specs.File.{alone, contents_by}
 use Rattle.record.specs.Writer.{encode, WritesAgain}
 use Rattle.record.proofs.EncodeLaws.{encode_length}
 use Rattle.record.proofs.RecordLaws.{single_ok, ok_single}
@@ -82,12 +82,17 @@ read_again : (f : List ℕ) (q : Result Site Refusal) → AllBytes f → read_re
 read_again f (Ok s) b e = writes_again s f e b
 read_again f (Err r) b e = tt
 
+alone_numbers : (q : Result Site Refusal) → result_numbers (alone q) ≡ result_numbers q
+unfolding result_numbers alone
+alone_numbers (Ok s) = refl
+alone_numbers (Err r) = refl
+
 pub read_answers : (f : List ℕ) (q : Result Site Refusal) → AllBytes f → read_record f ≡ q → record {
   answer : q ≡ read_record f;
-  numbers : result_numbers q ≡ result_numbers (read_record f);
+  numbers : result_numbers q ≡ result_numbers (contents_by 1 (site_at f) (length f));
   written_again : IfOk q (λ s. WritesAgain s f);
 }
-read_answers f q b e = record { answer = sym e; numbers = ap result_numbers (sym e); written_again = read_again f q b e }
+read_answers f q b e = record { answer = sym e; numbers = sym (alone_numbers q) ∙ ap (λ x. result_numbers (alone x)) (sym e) ∙ ap result_numbers (sym (single_is f)); written_again = read_again f q b e }
 
 pub read_none : (f : List ℕ) → eqb (length f) 0 ≡ true → read_record f ≡ Err (record { rule = NoBytes; at = 0 })
 unfolding read_record single

@@ -1,6 +1,7 @@
 // A record of a file, and the file of at most one record.
 ghost use Rattle.std.specs.Prelude.{◌≡◌, ◌-◌, ◌≤◌, length, take, drop, IfOk};
 ghost use Rattle.record.specs.Outer.{site_tag, site_at, record_at, read_record};
+ghost use Rattle.record.specs.File.{contents_by};
 ghost use Rattle.record.specs.Records.{outer_rule};
 ghost use Rattle.record.specs.Result.{result_numbers};
 ghost use Rattle.record.specs.Writer.{WritesAgain};
@@ -58,7 +59,7 @@ pub fn read_at(file: &[u8], at: usize) -> Result<Found, Refusal>
 // The single record of a file of at most one.
 pub fn read_record(file: &[u8]) -> Result<Site, Refusal>
     ensures answer { result ≡ read_record file.now }
-    ensures numbers { result_numbers result ≡ result_numbers (read_record file.now) }
+    ensures numbers { result_numbers result ≡ result_numbers (contents_by 1 (site_at file.now) (length file.now)) }
     ensures written_again { IfOk result (λ site. WritesAgain site file.now) }
 {
     if file.is_empty() {

@@ -27,14 +27,15 @@ pub struct Entry {
     pub yield_kg: u16,
 }
 
-// The first `len` of the bytes: the others are no part of the name. `Default` fills the free places of a vector of rows.
+// The first `len` of the bytes: the others are no part of the name. No slice and no vector, since a length that is too great is held too,
+// so that the check can refuse it. `Default` fills the free places of a vector of rows.
 #[derive(Clone, Copy, Default)]
 pub struct Name {
     pub bytes: [u8; 8],
     pub len: u8,
 }
 
-// The first `count` of the entries: the others are no part of the stand.
+// The first `count` of the entries: the others are no part of the stand. No vector, as with the name.
 #[derive(Clone, Copy)]
 pub struct Stand {
     pub entries: [Entry; 4],

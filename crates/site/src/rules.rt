@@ -9,7 +9,7 @@ impl From<Rule> for u64 {
     ghost from_gives = { λ rule n. n ≡ rule_number rule };
 
     fn from(rule: Rule) -> u64 {
-        // the number of its case
+        // the number of its case, which a match would only write out
         rule as u64
     }
 }

@@ -12,7 +12,7 @@ fn entry_ranged(e: Entry) -> bool
     e.species <= 8 && (1..=100).contains(&e.share) && e.yield_kg <= 20000
 }
 
-// What entries in range have shown: whether their species rise, the least that the next may be, and the sum of their shares.
+// What the entries so far have shown, in one walk: whether their species rise, the least that the next may be, and the sum of their shares.
 #[derive(Clone, Copy)]
 struct Seen {
     rising: bool,

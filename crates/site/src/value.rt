@@ -1,4 +1,4 @@
-// Rules 8, 9 and 10 of a site's field with a given tag.
+// Rules 8, 9 and 10 of a site's field with a given tag: the byte of the file, of which any can come.
 ghost use Rattle.std.specs.Prelude.{◌≡◌};
 ghost use Rattle.site.specs.Values.{value_rule};
 

@@ -16,7 +16,7 @@ pub fn put_refusal(out: &mut [u8], refused: Refusal) -> Result<usize, Refusal>
     ensures enough { RoomEnough (refusal refused.rule refused.at) out.old result }
 {
     let number = u64::from(refused.rule);
-    // u64 has no From<usize>
+    // `usize` and `u64` have no `From`, and `try_from` would bring a refusal that cannot come
     let offset = refused.at as u64;
     if out.len() < width(number) + width(offset) + 13 {
         return Err(Rule::BufferShort.into());
