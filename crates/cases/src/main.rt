@@ -20,6 +20,7 @@ use arrayvec::ArrayVec;
 use site::Refusal;
 use std::io::{self, Read};
 
+// The letter picks the call: a table of functions would be no plainer.
 fn print_vector(rt: &impl Print, kind: u8, bytes: &ArrayVec<u8, 2048>) -> Result<(), Stop> {
     let mut out = [0u8; 2048];
     match kind {

@@ -26,6 +26,7 @@ fn put_numbers(columns: &mut [u8], ns: [u64; 7])
     requires { length columns.old ≡ 48 }
     ensures { columns.new ≡ number_columns ns }
 {
+    // where the next column starts: they differ in width
     let mut at = 0;
     for (n, width) in ns.iter().zip(&WIDTHS) {
         put_number(&mut columns[at..at + *width], *n);

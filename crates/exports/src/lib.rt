@@ -1,4 +1,4 @@
-// The C interface: `docs/forest.h` describes it for its users.
+// The C interface: `docs/forest.h` describes it for its users. C lends each buffer as a slice, and nothing is allocated.
 #![tactic(auto)]
 
 mod codes;

@@ -11,7 +11,7 @@ use record::{Found, read_at};
 use site::{Refusal, Rule, Site};
 use text::Row;
 
-// The row of a record, and the offset after it.
+// The row of a record, and the offset after it: as `Found` of `record`, whose field is called `site`.
 #[derive(Clone, Copy)]
 struct Step {
     row: Row,

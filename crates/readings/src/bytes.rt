@@ -1,4 +1,4 @@
-// Twelve months in bytes, with zeros past the end.
+// Twelve months in bytes, with zeros past the end. The bound on each place keeps those after it within a usize.
 ghost use Rattle.std.specs.Prelude.{◌≡◌, ◌≤◌};
 ghost use Rattle.readings.specs.MonthBytes.{float_at, reading_at, month_at, months_in};
 

@@ -10,7 +10,7 @@ use crate::value::value_of;
 use output::put_bytes;
 use site::Site;
 
-// Tag and length of a field. Each of these functions returns the index after what it has written.
+// Tag and length of a field. Each of these functions returns the index after what it has written; buffer and index stay apart, as in `text`.
 pub fn put_head(buf: &mut [u8], at: usize, tag: u8, n: usize) -> usize
     requires { (at + 3 ≤ length buf.old) × (n < 65536) }
     ensures { Wrote buf.old at (tag ∷ (n / 256) ∷ (n % 256) ∷ []) buf.new result }
