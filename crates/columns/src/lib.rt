@@ -1,5 +1,4 @@
-// A line of a page: the header, or a row, in columns of fixed width. It is put without `Display`, into
-// a buffer at an index, as in `text`.
+// A line of a page: the header, or a row, in columns of fixed width; how it is put is said in `text`.
 #![tactic(auto)]
 
 mod column;

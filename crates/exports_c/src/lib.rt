@@ -1,4 +1,5 @@
-// The calls of `exports` for C, a static library: `docs/forest.h` describes them for their users. A crate is a library or a static library, and `exports` is the one that Rattle can call, so each is said again.
+// The calls of `exports` for C, a static library: `docs/forest.h` describes them for their users.
+// A crate is a library or a static library, and `exports` is the one that Rattle can call: so each call stands here once more.
 #![tactic(auto)]
 
 ghost use Rattle.std.specs.Prelude.{◌≡◌, ◌<◌, take, length, get_or};

@@ -25,7 +25,6 @@ pub enum Region {
 }
 
 // Within, or over with the region and both exceedances, the form of document 01. Over by nitrogen as a nutrient alone has region 0.
-// `Default` fills the free places of a vector of rows.
 #[derive(Clone, Copy, Debug, Default, PartialEq, Eq)]
 pub enum Verdict {
     #[default]

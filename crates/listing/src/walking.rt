@@ -49,7 +49,7 @@ pub fn walk_file(file: &[u8]) -> Result<ArrayVec<Row, 500>, Refusal>
     }
     let mut rows = ArrayVec::new();
     let mut at = 0;
-    // no index is counted: each record says where the next starts
+    // a `for` has nothing to run over: each record says where the next starts
     while at < file.len() {
         if rows.is_full() {
             let rule = Rule::TooMany;

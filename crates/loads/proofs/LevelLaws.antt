@@ -3,7 +3,7 @@ use Prim.Native.Nat.{ℕ, suc, ◌*◌, ◌^◌, ◌≤◌}
 use mathlib.Core.Bool.{true, false}
 use mathlib.Core.Path.{◌≡◌}
 use native.Mathlib.Omega.{arith}
-use native.Mathlib.Nat.{mul-zero, mul-one, one-mul, pow-zero, pow-suc, div-eq_of_lt, mul-le-mul, mul-le-mul_left, pow-le-pow_left, le_trans}
+use native.Mathlib.Nat.{mul-zero, mul-one, div-eq_of_lt, mul-le-mul, mul-le-mul_left, pow-le-pow_left, le_trans}
 use borrow.Author.Tests.{le-leb, lt-leb, leb-true, leb-false}
 use Rattle.site.specs.Ranges.{ceiling_range, percolation_range, gibbsite_range}
 use Rattle.loads.specs.Hydrogen.{hydrogen_of, al_of, within_limit, level_of}
@@ -49,9 +49,6 @@ module _ (q k : ℕ) where
           (λ j above le. lt-leb (al_of q k j) limit (le_trans (leb-false (al_of q k (suc g)) limit (next (omega arith))) (al_of_mono above)))
 
 -- the product under al(h) fits 64 bits, and so do its parts
-pub cube : (h : ℕ) → h ^ 3 ≡ h * h * h
-cube h = rw (pow-suc h 2, pow-suc h 1, pow-suc h 0, pow-zero) (simp one-mul)
-
 pub square_le : {h : ℕ} → h ≤ ceiling_range.most → h * h ≤ 25000000
 square_le l = mul-le-mul l l
 

@@ -51,7 +51,7 @@ impl SoilWater {
         let mut low = 0;
         let mut high = self.ceiling;
         let mut compared = 1;
-        // each turn halves what lies between; no index is counted
+        // each turn halves what lies between, so that a `for` has nothing to run over
         while low + 1 < high {
             let middle = (low + high) / 2;
             compared += 1;

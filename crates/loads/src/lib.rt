@@ -22,7 +22,7 @@ pub struct Searched {
     pub compared: u64,
 }
 
-// Whole eq per hectare and year: CLmaxS, CLminN, CLmaxN, CLnutN. `Default` fills the free places of a vector of rows.
+// Whole eq per hectare and year: CLmaxS, CLminN, CLmaxN, CLnutN.
 #[derive(Clone, Copy, Debug, Default, PartialEq, Eq)]
 pub struct Loads {
     pub max_s: u64,

@@ -28,7 +28,7 @@ module _ {A B : Type 0} (f : A → List B) where
       → at + length (flat_map f (take i xs) ++ f (get_or xs i d)) ≤ m
   each_fits at xs i d h r = simp length-append (omega (arith, length-flat_map-take f xs i d h))
 
-  -- and from the room for the first n
+  -- where the first n fit, so do the first i + 1 of them
   pub each_room : (at : ℕ) {m : ℕ} (xs : List A) (i n : ℕ) (d : A) → i < n → i < length xs → at + length (flat_map f (take n xs)) ≤ m
       → at + length (flat_map f (take i xs) ++ f (get_or xs i d)) ≤ m
   each_room at xs i n d h l r =

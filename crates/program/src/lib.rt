@@ -9,7 +9,7 @@ pub use printing::to_print;
 pub use reader::{after_read, read_all};
 pub use running::run;
 
-// Where the reading of a file stands, with how many bytes are read: no Result, since two of the three end the reading.
+// Where the reading of a file stands, with how many bytes are read: three outcomes, so no `Result`.
 #[derive(Clone, Copy, Debug, PartialEq, Eq)]
 pub enum ReadState {
     More(usize),

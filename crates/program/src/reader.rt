@@ -43,7 +43,7 @@ pub fn read_all<R: Read>(reader: &mut R, buffer: &mut [u8]) -> Input
     ensures whole { IfSome (R.remaining reader.old) (λ f. result.reading ≢ Failed → ReadFrom f buffer.new result.reading) }
 {
     let mut done = 0;
-    // no index is counted: each read says how far it came
+    // a `for` has nothing to run over: each read says how far it came
     loop {
         let input = read_once(reader, buffer, done);
         let ReadState::More(n) = input.reading else {

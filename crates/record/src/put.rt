@@ -1,5 +1,5 @@
 // Fields put into a lent buffer.
-ghost use Rattle.std.specs.Prelude.{[], ◌∷◌, ◌≡◌, ◌+◌, ◌/◌, ◌%◌, ◌≤◌, ◌<◌, length};
+ghost use Rattle.std.specs.Prelude.{[], ◌∷◌, ◌+◌, ◌/◌, ◌%◌, ◌≤◌, ◌<◌, length};
 ghost use Rattle.site.specs.Values.{due};
 ghost use Rattle.output.specs.Writing.{Wrote};
 ghost use Rattle.record.specs.FieldParts.{field_of};

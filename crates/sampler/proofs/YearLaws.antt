@@ -1,4 +1,4 @@
--- One step over the months.
+-- The walk over the months, from the month at place i and the sums before it.
 use Prim.Native.Nat.{ℕ, ◌+◌, ◌≤◌, ◌<◌}
 use mathlib.Core.Path.{◌≡◌}
 use mathlib.Core.List.{List}

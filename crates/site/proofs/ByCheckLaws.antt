@@ -18,6 +18,11 @@ module _ {A : Type 0} where
   refused_by (Ok tt) x r e = cc
   refused_by (Err k) x r e = cc
 
+  pub then_assoc : (a b : Checked) (c : Result A Rule) → and_then (and_then a b) c ≡ and_then a (and_then b c)
+  unfolding and_then
+  then_assoc (Ok tt) b c = refl
+  then_assoc (Err r) b c = refl
+
   pub unless_ok : (c : Checked) (at : ℕ) (q : Result A Refusal) {x : A} → unless c at q ≡ Ok x → (c ≡ Ok tt) × (q ≡ Ok x)
   unfolding unless
   unless_ok (Ok tt) at q e = (refl, e)

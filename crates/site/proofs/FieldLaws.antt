@@ -11,19 +11,12 @@ use borrow.Author.Tests.{eqb-true}
 use native.Mathlib.Numerals.{add-one}
 use Rattle.site.proofs.BelowLaws.{one_below}
 use Rattle.site.specs.declared.Site.{Site}
-use Rattle.site.specs.declared.Rule.{Rule}
-use Rattle.site.specs.Refusal.{Checked, and_then}
-use Rattle.std.specs.Prelude.{Result, Ok, Err}
+use Rattle.site.specs.Refusal.{and_then}
+use Rattle.std.specs.Prelude.{Ok}
 use Rattle.site.specs.Values.{due, count_rule, value_rule}
 use Rattle.site.specs.Check.{fields_rule, site_rule}
 use Rattle.site.proofs.Tests.{le_or_lt}
 use Rattle.site.proofs.Passing.{both_passed}
-
--- three in a row: it does not matter which two are put together
-pub then_assoc : {A : Type 0} (a b : Checked) (c : Result A Rule) → and_then (and_then a b) c ≡ and_then a (and_then b c)
-unfolding and_then
-then_assoc (Ok tt) b c = refl
-then_assoc (Err r) b c = refl
 
 field_passed : (ds : List ℕ) (k : ℕ) (s : Site) → k < length ds → fields_rule ds s ≡ Ok tt
     → (count_rule (get_or ds k 0) s ≡ Ok tt) × (value_rule (get_or ds k 0) s ≡ Ok tt)

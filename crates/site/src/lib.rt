@@ -28,7 +28,7 @@ pub struct Entry {
 }
 
 // The first `len` of the bytes: the others are no part of the name. No slice and no vector, since a length that is too great is held too,
-// so that the check can refuse it. `Default` fills the free places of a vector of rows.
+// so that the check can refuse it.
 #[derive(Clone, Copy, Default)]
 pub struct Name {
     pub bytes: [u8; 8],

@@ -102,5 +102,6 @@ length_above (suc k) n h =
 pub length_u64 : (n : ℕ) → n < 2 ^ 64 → length (decimal n) ≤ 20
 length_u64 n h = length_below 20 n (omega arith) (omega arith)
 
--- for a loop that drops a digit a turn
-pub ruleset widths = (length_small, length_step, length_u64)
+-- k + 1, where 10 ^ k is the greatest power of ten that n reaches
+pub length_between : (k n : ℕ) → 10 ^ k ≤ n → n < 10 * 10 ^ k → length (decimal n) ≡ k + 1
+length_between k n least below = omega (arith, length_above k n least, length_below (suc k) n (omega arith) (omega (arith, pow-succ' 10 k)))

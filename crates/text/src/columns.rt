@@ -36,7 +36,7 @@ fn put_number(out: &mut [u8], at: usize, n: u64) -> usize
     put_decimal(out, at + 1, n)
 }
 
-// Writes the numbers, each after a space. `put_lines` is its twin: one function over a closure that lends the buffer is no plainer.
+// Writes the numbers, each after a space. `put_lines` does the same with lines: one function for both, over a closure that is lent the buffer, is no plainer.
 #[tactic(auto, using(output::proofs::WritingLaws::nothing, output::proofs::EachLaws::next_fits, output::proofs::EachLaws::next_written))]
 pub fn put_numbers(out: &mut [u8], mut at: usize, ns: [u64; 7]) -> usize
     requires { at + length (flat_map column ns) ≤ length out.old }

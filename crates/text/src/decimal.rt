@@ -5,18 +5,16 @@ ghost use Rattle.output.specs.Writing.{WroteIf};
 
 use itoa::write_digits;
 
-// How many decimal digits n has: they are counted, since std has no ilog10.
-#[tactic(auto, using(crate::proofs::DecimalLaws::widths))]
+// How many decimal digits n has.
+#[tactic(auto, using(crate::proofs::DecimalLaws::length_small, crate::proofs::DecimalLaws::length_between))]
 pub fn width(n: u64) -> usize
     ensures { (result ≡ length (decimal n)) × (result ≤ 20) }
 {
-    let mut digits = 1;
-    let mut rest = n;
-    while rest >= 10 {
-        rest /= 10;
-        digits += 1;
+    match n.checked_ilog10() {
+        None => 1,
+        // `usize` and `u32` have no `From`
+        Some(k) => k as usize + 1,
     }
-    digits
 }
 
 // Writes n at index at, and returns the index after it; where it does not fit, nothing is written. The digits stand in place at once, where

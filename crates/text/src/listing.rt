@@ -13,7 +13,7 @@ use crate::line::{line_len, put_line};
 use output::put_bytes;
 use site::{Refusal, Rule};
 
-// How many bytes the listing has, or the greatest usize where it has more, at which no `sum` stops.
+// How many bytes the listing has, or the greatest usize where it has more: `sum` does not saturate.
 #[tactic(auto, using(std::proofs::lemmas::Grind::common_steps, crate::proofs::LineLaws::line_lengths))]
 fn listing_len(rows: &[Row]) -> usize
     ensures counted { result ≡ min (length (listing rows.now)) usize.MAX }
@@ -26,7 +26,7 @@ fn listing_len(rows: &[Row]) -> usize
     n
 }
 
-// Writes the lines of the rows, as `put_numbers` does the numbers.
+// Writes the lines of the rows.
 #[tactic(auto, using(output::proofs::WritingLaws::nothing, output::proofs::EachLaws::next_fits))]
 fn put_lines(out: &mut [u8], mut at: usize, rows: &[Row]) -> usize
     requires { at + length (flat_map line rows.now) ≤ length out.old }
