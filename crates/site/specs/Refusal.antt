@@ -1,4 +1,4 @@
--- The refusals by number: 1 to 11 of document 01, "Where each check stands", then those of document 02.
+-- The refusals by number: 1 to 11 of document 01, "Where each check stands", then those of document 02; what a check says, and an answer after it.
 use Rattle.std.specs.Prelude.{ℕ, List, [], ◌∷◌, Result, Ok, Err}
 use Rattle.site.specs.declared.Rule.{Rule}
 use Rattle.site.specs.declared.Refusal.{Refusal}
