@@ -33,7 +33,7 @@ use Rattle.sampler.specs.declared.Sampled.{Sampled}
 use Rattle.sampler.proofs.SampleLaws.{pair_rule, pair_terms, sample_given, checked_at, year_at}
 use Rattle.exports.specs.Codes.{code_base, written_code, Decodes}
 use Rattle.exports.specs.Numbers.{numbers_written, numbers_held}
-use Rattle.exports.specs.Layout.{site_in, value_check, site_load_numbers, mark_number, verdict_marked, judged_numbers, judgement_numbers}
+use Rattle.exports.specs.Layout.{site_in, value_length, value_check, site_load_numbers, mark_number, verdict_marked, judged_numbers, judgement_numbers}
 use Rattle.exports.specs.Samples.{months_length, sample_in, sampled_numbers, sampled, sample_written, sample_held, NumbersByKey}
 use Rattle.exports.proofs.CodeLaws.{decodes, count_below}
 use Rattle.exports.proofs.SiteValueLaws.{wrong_length, as_site, value_passes, counted_passed, length_marked, mark_tells, mark_at}
@@ -42,15 +42,15 @@ use Rattle.exports.proofs.SiteValueLaws.{wrong_length, as_site, value_passes, co
 
 module _ (b m : List ℕ) where
   -- the checks of the site come before the length of the months
-  pub months_length_lem : length b ≡ 50 → (length m ≡ 204 → ⊥) → sample_in b m ≡ unless (site_rule (site_in b)) 0 (Err (record { rule = BadLength; at = 0 }))
+  pub months_length_lem : value_length b ≡ Ok tt → (length m ≡ 204 → ⊥) → sample_in b m ≡ unless (site_rule (site_in b)) 0 (Err (record { rule = BadLength; at = 0 }))
   unfolding sample_in months_length unless
   months_length_lem h n = rw (as_site b h, ne_eqb (length m) 204 n)
 
-  pub site_length : (length b ≡ 50 → ⊥) → sample_in b m ≡ Err (record { rule = BadLength; at = 0 })
+  pub site_length : (length b ≡ 50 → ⊥) → (length b ≡ 51 → ⊥) → sample_in b m ≡ Err (record { rule = BadLength; at = 0 })
   unfolding sample_in unless
-  site_length h = rw (wrong_length b h)
+  site_length h i = rw (wrong_length b h i)
 
-  pub both_whole : length b ≡ 50 → length m ≡ 204 → sample_in b m ≡ sample_answer (site_in b) (months_in m)
+  pub both_whole : value_length b ≡ Ok tt → length m ≡ 204 → sample_in b m ≡ sample_answer (site_in b) (months_in m)
   unfolding sample_in months_length sample_answer unless
   both_whole h n = rw (as_site b h, eq-eqb (length m) 204 n)
 

@@ -10,6 +10,7 @@ use Rattle.site.specs.Refusal.{and_then, Checked, unless}
 use Rattle.site.specs.Check.{site_rule}
 use Rattle.site.specs.declared.Refusal.{Refusal}
 use Rattle.site.specs.declared.Rule.TheVariants.{BadLength}
+use Rattle.site.specs.declared.RecordKind.TheVariants.{Tag52, Tag53}
 use Rattle.site.specs.declared.Site.{Site}
 use Rattle.site.proofs.Passing.{both_passed}
 use Rattle.loads.specs.SiteTerms.{terms_of}
@@ -26,19 +27,28 @@ use Rattle.output.specs.Output.{Written, write_answer, output_rule, held_after}
 use Rattle.output.proofs.OutputLaws.{output_whole, output_passed}
 use Rattle.exports.specs.Codes.{code_base, written_code, Decodes}
 use Rattle.exports.specs.Numbers.{numbers_written, numbers_held}
-use Rattle.exports.specs.Layout.{site_in, value_length, value_check, value_answer, site_load_numbers, mark_number, verdict_marked, judgement_numbers}
+use Rattle.exports.specs.Layout.{site_as, kind_in, site_in, value_length, value_check, value_answer, site_load_numbers, mark_number, verdict_marked, judgement_numbers}
 use Rattle.exports.proofs.CodeLaws.{count_below, by_check_decodes}
 
 -- ---- the check of the bytes, by their length
 
 module _ (b : List ℕ) where
-  pub wrong_length : (length b ≡ 50 → ⊥) → value_check b ≡ Err BadLength
+  pub wrong_length : (length b ≡ 50 → ⊥) → (length b ≡ 51 → ⊥) → value_check b ≡ Err BadLength
   unfolding value_check value_length and_then
-  wrong_length h = rw (ne_eqb (length b) 50 h)
+  wrong_length h i = rw (ne_eqb (length b) 50 h, ne_eqb (length b) 51 i)
 
-  pub as_site : length b ≡ 50 → value_check b ≡ site_rule (site_in b)
-  unfolding value_check value_length and_then
-  as_site h = rw (eq-eqb (length b) 50 h)
+  pub as_site : value_length b ≡ Ok tt → value_check b ≡ site_rule (site_in b)
+  unfolding value_check and_then
+  as_site h = rw h
+
+  -- 50 bytes are a value of kind 52, 51 of kind 53
+  pub as_52 : length b ≡ 50 → value_check b ≡ site_rule (site_as Tag52 b)
+  unfolding value_check value_length kind_in and_then
+  as_52 h = rw h
+
+  pub as_53 : length b ≡ 51 → value_check b ≡ site_rule (site_as Tag53 b)
+  unfolding value_check value_length kind_in and_then
+  as_53 h = rw h
 
 -- the check alone
 pub check_promised : (c : Checked) {r : ℕ} → r ≡ written_code (write_answer c 0) → Decodes (write_answer c 0) r

@@ -1,11 +1,14 @@
--- The calls on a site value: its 50 bytes, in the order of the site's values, numbers of two bytes with the high byte first; its check; and
--- the numbers of its loads and of its judgement.
-use Rattle.std.specs.Prelude.{ℕ, List, [], ◌∷◌, ◌++◌, eqb, get_or, length, Ok, Err}
+-- The calls on a site value: its bytes, in the order of the site's values, numbers of two bytes with the high byte first; its check; and the numbers of its
+-- loads and of its judgement. The number of the bytes says the kind: 50 are a value of kind 52, 51 one of kind 53, whose last byte is the temperature.
+use Rattle.std.specs.Prelude.{ℕ, ◌||◌, List, [], ◌∷◌, ◌++◌, eqb, get_or, length, Ok, Err}
 use Rattle.site.specs.Choice.{pick}
 use Rattle.site.specs.Refusal.{and_then, Checked}
 use Rattle.site.specs.Check.{site_rule}
 use Rattle.numbers.specs.TwoBytes.{word_at}
 use Rattle.site.specs.Bytes.{name_in, entry_at}
+use Rattle.site.specs.declared.RecordKind.{RecordKind}
+use Rattle.site.specs.declared.RecordKind.TheVariants.{Tag52, Tag53}
+use Rattle.site.specs.Kinds.{usual_temperature}
 use Rattle.site.specs.declared.Site.{Site}
 use Rattle.site.specs.declared.Rule.TheVariants.{BadLength}
 use Rattle.output.specs.Output.{Written, output_rule, write_answer}
@@ -16,8 +19,10 @@ use Rattle.judgement.specs.declared.Verdict.{Verdict}
 use Rattle.judgement.specs.declared.Verdict.TheVariants.{Within, Over}
 use Rattle.judgement.specs.Verdicts.{verdict, verdict_numbers}
 
-unfoldable pub site_in : List ℕ → Site
-site_in b = record {
+-- the bytes as a value of kind k; where there is no temperature, that of 8 °C
+unfoldable pub site_as : RecordKind → List ℕ → Site
+site_as k b = record {
+  kind = k;
   name = record { bytes = name_in b; len = get_or b 8 0 };
   parent = get_or b 9 0;
   clay = get_or b 10 0;
@@ -35,11 +40,19 @@ site_in b = record {
   leachate = word_at b 44;
   sulphur = word_at b 46;
   nitrogen = word_at b 48;
+  temperature = get_or b 50 usual_temperature;
 }
+
+-- the length says the kind
+unfoldable pub kind_in : List ℕ → RecordKind
+kind_in b = pick (eqb (length b) 51) Tag53 Tag52
+
+abbrev pub site_in : List ℕ → Site
+site_in b = site_as (kind_in b) b
 
 -- rule 7 for the length of the bytes
 unfoldable pub value_length : List ℕ → Checked
-value_length b = pick (eqb (length b) 50) (Ok tt) (Err BadLength)
+value_length b = pick (eqb (length b) 50 || eqb (length b) 51) (Ok tt) (Err BadLength)
 
 -- then the rules of the site
 unfoldable pub value_check : List ℕ → Checked

@@ -1,15 +1,16 @@
-// A site value from its 50 bytes.
+// A site value from its bytes.
 ghost use Rattle.std.specs.Prelude.{◌≡◌};
-ghost use Rattle.exports.specs.Layout.{site_in};
+ghost use Rattle.exports.specs.Layout.{site_as};
 
 use numbers::{byte, word_at};
-use site::{Name, Site, Stand, entry_at, name_in};
+use site::{Name, RecordKind, Site, Stand, entry_at, name_in};
 
-#[tactic(auto, unfolding(crate::specs::Layout::site_in))]
-pub fn site_in(b: &[u8]) -> Site
-    ensures { result ≡ site_in b.now }
+#[tactic(auto, unfolding(crate::specs::Layout::site_as))]
+pub fn site_as(kind: RecordKind, b: &[u8]) -> Site
+    ensures { result ≡ site_as kind b.now }
 {
     Site {
+        kind,
         name: Name {
             bytes: name_in(b),
             len: byte(b, 8),
@@ -38,5 +39,7 @@ pub fn site_in(b: &[u8]) -> Site
         leachate: word_at(b, 44),
         sulphur: word_at(b, 46),
         nitrogen: word_at(b, 48),
+        // 8 °C where there is none
+        temperature: b.get(50).copied().unwrap_or(13),
     }
 }

@@ -9,22 +9,24 @@ ghost use Rattle.exports.specs.Codes.{written_code, Decodes};
 ghost use Rattle.exports.specs.Layout.{site_in, value_length, value_check, value_answer, site_load_numbers, judged_numbers, judgement_numbers};
 
 use crate::codes::written_code;
-use crate::layout::site_in;
+use crate::layout::site_as;
 use crate::putting::put_numbers;
 use judgement::{Judged, Verdict, judge};
 use level::level_at;
 use loads::critical_loads;
-use site::{Refusal, Rule, Site, check_site};
+use site::{RecordKind, Refusal, Rule, Site, check_site};
 
-// The site in the bytes of a site value.
-#[tactic(auto, unfolding(site::specs::Refusal::and_then, crate::specs::Layout::value_length))]
+// The site in the bytes of a site value, whose number says its kind.
+#[tactic(auto, unfolding(site::specs::Refusal::and_then, crate::specs::Layout::value_length, crate::specs::Layout::kind_in))]
 pub fn site_value(bytes: &[u8]) -> Result<Site, Rule>
     ensures { result ≡ and_then (value_length bytes.now) (Ok (site_in bytes.now)) }
 {
-    if bytes.len() != 50 {
-        return Err(Rule::BadLength);
-    }
-    Ok(site_in(bytes))
+    let kind = match bytes.len() {
+        50 => RecordKind::Tag52,
+        51 => RecordKind::Tag53,
+        _ => return Err(Rule::BadLength),
+    };
+    Ok(site_as(kind, bytes))
 }
 
 #[tactic(auto, unfolding(site::specs::Refusal::and_then, site::specs::Refusal::unless, crate::specs::Layout::value_check))]

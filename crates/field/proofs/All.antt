@@ -1,8 +1,12 @@
 -- Something of each element of a list.
+use mathlib.Core.Path.{◌≡◌}
+use mathlib.Core.Bool.{Bool, true}
 use mathlib.Core.List.{List, [], ◌∷◌}
 use Prim.Native.Nat.{ℕ, zero, suc, ◌<◌}
 use native.Mathlib.Omega.{arith}
 use lib.ListN.{length, get_or}
+use Rattle.std.specs.List.{list_all}
+use Rattle.site.proofs.Tests.{and_l, and_r}
 
 infixr 67 ◌▸◌
 pub data All {A : Type 0} (P : A → Type 0) : List A → Type 0 where
@@ -10,6 +14,15 @@ pub data All {A : Type 0} (P : A → Type 0) : List A → Type 0 where
   ◌▸◌ : {x : A} {xs : List A} → P x → All P xs → All P (x ∷ xs)
 
 module _ {A : Type 0} where
+  pub all_of : {P : A → Type 0} → ((x : A) → P x) → (xs : List A) → All P xs
+  all_of f [] = none
+  all_of f (x ∷ xs) = f x ▸ all_of f xs
+
+  -- by a test that is computed over the list
+  pub all_by : (test : A → Bool) (xs : List A) → list_all test xs ≡ true → All (λ x. test x ≡ true) xs
+  all_by test [] e = none
+  all_by test (x ∷ xs) e = and_l (test x) (list_all test xs) e ▸ all_by test xs (and_r (test x) (list_all test xs) e)
+
   pub map-all : {P Q : A → Type 0} → ((x : A) → P x → Q x) → {xs : List A} → All P xs → All Q xs
   map-all f none = none
   map-all f (p ▸ ps) = f _ p ▸ map-all f ps

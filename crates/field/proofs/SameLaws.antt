@@ -6,6 +6,9 @@ use native.Mathlib.Omega.{arith}
 use lib.ListN.{length, take, replicate}
 use lib.Seq.{take_at, take-take, length-take-le}
 use Rattle.site.specs.declared.Site.{Site}
+use Rattle.site.specs.declared.RecordKind.{RecordKind}
+use Rattle.site.specs.declared.RecordKind.TheVariants.{Tag52, Tag53}
+use Rattle.site.specs.Kinds.{temperature_of}
 use Rattle.std.specs.Prelude.{Ok}
 use Rattle.site.specs.Bounds.{no_entry}
 use Rattle.site.specs.Check.{site_rule}
@@ -17,10 +20,17 @@ use Rattle.field.specs.Clean.{clean, SameSite, Sized}
 padded_front : {A : Type 0} (l : List A) (n m : ℕ) (d : A) → length l ≡ m → n ≤ m → take n l ≡ take n (take m (take n l ++ replicate m d))
 padded_front l n m d e h = sym (take-take n m (take n l ++ replicate m d) h ∙ take_at (take n l) (replicate m d) n (length-take-le n l (omega arith)))
 
+-- of the temperature that counts the temperature that counts is the same
+counted : (s : Site) (k : RecordKind) → s.kind ≡ k → temperature_of s ≡ temperature_of (clean s)
+unfolding temperature_of clean
+counted s Tag52 e = rw e
+counted s Tag53 e = rw e
+
 pub clean_same : (s : Site) → Sized s → site_rule s ≡ Ok tt → SameSite s (clean s)
 unfolding clean item_count
 clean_same s z e = record {
-  name = padded_front s.name.bytes s.name.len 8 0 z.name (count_parts 1 s (site_passed s e 0 (omega arith)).0).1;
+  kind = refl;
+  name = padded_front s.name.bytes s.name.len 8 0 z.name (count_parts 1 s (site_passed s e 1 (omega arith) (omega arith)).0).1;
   name_length = refl;
   entries = refl;
   one = record {
@@ -30,7 +40,7 @@ clean_same s z e = record {
     depth = refl;
     drainage = refl;
     percolation = refl;
-    stand = padded_front s.stand.entries s.stand.count 4 no_entry z.stand (count_parts 7 s (site_passed s e 6 (omega arith)).0).1;
+    stand = padded_front s.stand.entries s.stand.count 4 no_entry z.stand (count_parts 7 s (site_passed s e 7 (omega arith) (omega arith)).0).1;
     immobilisation = refl;
     available = refl;
     deposition = refl;
@@ -38,6 +48,7 @@ clean_same s z e = record {
     gibbsite = refl;
     ceiling = refl;
     leachate = refl;
+    temperature = counted s s.kind refl;
   };
   sulphur = refl;
   nitrogen = refl;

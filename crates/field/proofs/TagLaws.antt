@@ -1,7 +1,7 @@
 -- The fields of a site by tag: what was stored is written, what is written is read, and other fields stay.
 use mathlib.Core.Path.{◌≡◌, refl, ◌∙◌}
 use mathlib.Core.Bool.{true}
-use mathlib.Core.List.{List, ◌++◌}
+use mathlib.Core.List.{List, [], ◌∷◌, ◌++◌}
 use Prim.Native.Nat.{ℕ, ◌+◌, ◌*◌, ◌/◌, ◌≤◌}
 use native.Mathlib.Omega.{arith}
 use lib.Dec.{leb, eqb}
@@ -14,8 +14,11 @@ use Rattle.site.specs.Choice.{pick}
 use Rattle.site.specs.Bytes.{tabulate, entry_at}
 use Rattle.field.specs.Field.{store, entries_bytes, value, site_kind}
 use Rattle.field.specs.Kind.{field_rule}
-use Rattle.site.specs.Ranges.{parent_range, depth_range, drainage_range, percolation_range, immobilisation_range, available_range, base_deposition_range, ratio_range, gibbsite_range, ceiling_range, leachate_range}
-use Rattle.site.specs.Values.{due, items_of, length_permitted, item_count, count_rule, value_rule, ranged, between}
+use Rattle.site.specs.Ranges.{parent_range, depth_range, drainage_range, percolation_range, immobilisation_range, available_range, base_deposition_range, ratio_range, gibbsite_range, ceiling_range, leachate_range, temperature_range}
+use Rattle.site.specs.declared.RecordKind.{RecordKind}
+use Rattle.site.specs.declared.RecordKind.TheVariants.{Tag52, Tag53}
+use Rattle.site.specs.Kinds.{due}
+use Rattle.site.specs.Values.{items_of, length_permitted, item_count, count_rule, value_rule, ranged, between}
 use Rattle.site.proofs.LengthLaws.{permitted_parts, parts_permitted, parts_counted, one_item}
 use Rattle.field.specs.Clean.{Sized, AllBytes}
 use Rattle.field.proofs.All.{All, none, ◌▸◌}
@@ -51,28 +54,6 @@ pub record AsRead (t : ℕ) (s : Site) : Type 0 where
   pub rule : value_rule t s ≡ Ok tt
   pub tidy : Tidy t s
 
--- ---- the laws of the field t
-
-pub record TagLaws (t : ℕ) : Type 0 where
-  pub kept : Kept site_kind t
-  pub read : Made site_kind (AsRead t) t
-  pub again : (s : Site) → Sized s → count_rule t s ≡ Ok tt → value_rule t s ≡ Ok tt → (x : Site) → field_rule site_kind t (value t s) x ≡ Ok tt
-
--- a field of one item, of which rule 7 holds in every site
-one_tag : (t : ℕ) → OneItem site_kind t → ((s : Site) → (count_rule t s ≡ Ok tt) × Tidy t s) → TagLaws t
-one_tag t one plain = record {
-  kept = one.kept;
-  read = record {
-    own = λ v x e. record { count = (plain (store t v x)).0; rule = (parts_passed site_kind t v x e).1; tidy = (plain (store t v x)).1 };
-    other = λ u v x h r. record { count = (plain (store u v x)).0; rule = one.rule u v x h r.rule; tidy = (plain (store u v x)).1 };
-  };
-  again = λ s z c e. one.again s e;
-}
-
--- by the table of lengths: one item of w bytes
-one-length : (t w : ℕ) → (items_of t).most ≡ 1 → (items_of t).width ≡ w → length_permitted t w ≡ true → OneLength site_kind t w
-one-length t w one wide ok = (λ n p. one_item t n one p ∙ wide, ok)
-
 -- ---- the name and the stand
 
 pub quarter : (n : ℕ) → 4 * n / 4 ≡ n
@@ -107,73 +88,106 @@ stand_other : (u : ℕ) (v : List ℕ) (x : Site) → (u ≡ 7 → ⊥) → (cou
 unfolding store count_rule item_count Tidy
 stand_other u v x h p = (rw (ne_eqb u 7 h) p.0, rw (ne_eqb u 7 h) p.1)
 
--- a field of many items
-many_part : (t : ℕ) → Kept site_kind t
-    → ((v : List ℕ) (x : Site) → length_permitted t (length v) ≡ true → (count_rule t (store t v x) ≡ Ok tt) × Tidy t (store t v x))
-    → ((u : ℕ) (v : List ℕ) (x : Site) → (u ≡ t → ⊥) → (count_rule t x ≡ Ok tt) × Tidy t x → (count_rule t (store u v x) ≡ Ok tt) × Tidy t (store u v x))
-    → ((u : ℕ) (v : List ℕ) (x : Site) → (u ≡ t → ⊥) → value_rule t x ≡ Ok tt → value_rule t (store u v x) ≡ Ok tt)
-    → ((s : Site) → Sized s → count_rule t s ≡ Ok tt → value_rule t s ≡ Ok tt → (x : Site) → field_rule site_kind t (value t s) x ≡ Ok tt) → TagLaws t
-many_part t kept own other rule again = record {
-  kept = kept;
-  read = record {
-    own = λ v x e. let p = own v x (parts_passed site_kind t v x e).0 in record { count = p.0; rule = (parts_passed site_kind t v x e).1; tidy = p.1 };
-    other = λ u v x h r. let p = other u v x h (r.count, r.tidy) in record { count = p.0; rule = rule u v x h r.rule; tidy = p.1 };
-  };
-  again = again;
-}
+-- ---- the laws of the field t in a record of kind k
 
-name_again : (s : Site) → Sized s → count_rule 1 s ≡ Ok tt → value_rule 1 s ≡ Ok tt → (x : Site) → field_rule site_kind 1 (value 1 s) x ≡ Ok tt
-unfolding value value_rule store field_rule
-name_again s z c e x =
-    let name = take s.name.len s.name.bytes in
-    let l = name_long s z c in
-    let k = name_counts s z c in
-    let n8 : length name ≤ 8 = omega arith in
-    rw (parts_permitted 1 (length name) (omega arith) n8 (omega arith), take-tabulate 8 name 0 n8) e
+module _ (k : RecordKind) where
+  pub record TagLaws (t : ℕ) : Type 0 where
+    pub kept : Kept (site_kind k) t
+    pub read : Made (site_kind k) (AsRead t) t
+    pub again : (s : Site) → Sized s → count_rule t s ≡ Ok tt → value_rule t s ≡ Ok tt → (x : Site) → field_rule (site_kind k) t (value t s) x ≡ Ok tt
 
-stand_again : (s : Site) → Sized s → count_rule 7 s ≡ Ok tt → value_rule 7 s ≡ Ok tt → (x : Site) → field_rule site_kind 7 (value 7 s) x ≡ Ok tt
-unfolding value value_rule store field_rule
-stand_again s z c e x =
-    let es = take s.stand.count s.stand.entries in
-    let b = bytes_long s z c in
-    let l = stand_long s z c in
-    let k = stand_counts s z c in
-    let n4 : length es ≤ 4 = omega arith in
-    let t : take s.stand.count (tabulate 4 (λ i. get_or es i no_entry)) ≡ es = rw l at (take-tabulate 4 es no_entry n4) in
-    rw (b, parts_permitted 7 (4 * s.stand.count) (omega arith) (omega arith) (omega arith), quarter, stand_back 4 es, t) e
+  -- a field of one item, of which rule 7 holds in every site
+  one_tag : (t : ℕ) → OneItem (site_kind k) t → ((s : Site) → (count_rule t s ≡ Ok tt) × Tidy t s) → TagLaws t
+  one_tag t one plain = record {
+    kept = one.kept;
+    read = record {
+      own = λ v x e. record { count = (plain (store t v x)).0; rule = (parts_passed (site_kind k) t v x e).1; tidy = (plain (store t v x)).1 };
+      other = λ u v x h r. record { count = (plain (store u v x)).0; rule = one.rule u v x h r.rule; tidy = (plain (store u v x)).1 };
+    };
+    again = λ s z c e. one.again s e;
+  }
 
-name_tag : TagLaws 1
-unfolding value value_rule store
-name_tag =
-    many_part 1
-    (record { own = λ v x p b. name_kept v (parts_passed site_kind 1 v x p).0; other = λ u v x h. rw (ne_eqb u 1 h) })
-    name_own name_other (λ u v x h e. rw (ne_eqb u 1 h) e) name_again
+  -- by the table of lengths: one item of w bytes
+  one-length : (t w : ℕ) → (items_of t).most ≡ 1 → (items_of t).width ≡ w → length_permitted t w ≡ true → OneLength (site_kind k) t w
+  one-length t w one wide ok = (λ n p. one_item t n one p ∙ wide, ok)
 
-stand_tag : TagLaws 7
-unfolding value value_rule store
-stand_tag =
-    many_part 7
-    (record { own = λ v x p b. stand_kept v (parts_passed site_kind 7 v x p).0 b; other = λ u v x h. rw (ne_eqb u 7 h) })
-    stand_own stand_other (λ u v x h e. rw (ne_eqb u 7 h) e) stand_again
+  -- a field of many items
+  many_part : (t : ℕ) → Kept (site_kind k) t
+      → ((v : List ℕ) (x : Site) → length_permitted t (length v) ≡ true → (count_rule t (store t v x) ≡ Ok tt) × Tidy t (store t v x))
+      → ((u : ℕ) (v : List ℕ) (x : Site) → (u ≡ t → ⊥) → (count_rule t x ≡ Ok tt) × Tidy t x → (count_rule t (store u v x) ≡ Ok tt) × Tidy t (store u v x))
+      → ((u : ℕ) (v : List ℕ) (x : Site) → (u ≡ t → ⊥) → value_rule t x ≡ Ok tt → value_rule t (store u v x) ≡ Ok tt)
+      → ((s : Site) → Sized s → count_rule t s ≡ Ok tt → value_rule t s ≡ Ok tt → (x : Site) → field_rule (site_kind k) t (value t s) x ≡ Ok tt) → TagLaws t
+  many_part t kept own other rule again = record {
+    kept = kept;
+    read = record {
+      own = λ v x e. let p = own v x (parts_passed (site_kind k) t v x e).0 in record { count = p.0; rule = (parts_passed (site_kind k) t v x e).1; tidy = p.1 };
+      other = λ u v x h r. let p = other u v x h (r.count, r.tidy) in record { count = p.0; rule = rule u v x h r.rule; tidy = p.1 };
+    };
+    again = again;
+  }
 
--- ---- all fields: a line for each tag
+  name_again : (s : Site) → Sized s → count_rule 1 s ≡ Ok tt → value_rule 1 s ≡ Ok tt → (x : Site) → field_rule (site_kind k) 1 (value 1 s) x ≡ Ok tt
+  unfolding value value_rule store field_rule
+  name_again s z c e x =
+      let name = take s.name.len s.name.bytes in
+      let l = name_long s z c in
+      let k = name_counts s z c in
+      let n8 : length name ≤ 8 = omega arith in
+      rw (parts_permitted 1 (length name) (omega arith) n8 (omega arith), take-tabulate 8 name 0 n8) e
 
-pub tags : All TagLaws due
-unfolding value value_rule store count_rule item_count Tidy length_permitted
-tags =
-    name_tag
-    ▸ one_tag 2 (byte_item site_kind 2 (λ s. s.parent) (between parent_range) (one-length 2 1 refl refl refl) (λ s v. (refl, refl, refl)) (λ u v x h. rw (ne_eqb u 2 h))) (λ s. (refl, tt))
-    ▸ one_tag 3 (pair_item site_kind 3 (λ s. (s.clay, s.sand)) (λ b. ranged (leb (b.0 + b.1) 100)) (one-length 3 2 refl refl refl) (λ s v. (refl, refl, refl)) (λ u v x h. rw (ne_eqb u 3 h))) (λ s. (refl, tt))
-    ▸ one_tag 4 (byte_item site_kind 4 (λ s. s.depth) (between depth_range) (one-length 4 1 refl refl refl) (λ s v. (refl, refl, refl)) (λ u v x h. rw (ne_eqb u 4 h))) (λ s. (refl, tt))
-    ▸ one_tag 5 (byte_item site_kind 5 (λ s. s.drainage) (between drainage_range) (one-length 5 1 refl refl refl) (λ s v. (refl, refl, refl)) (λ u v x h. rw (ne_eqb u 5 h))) (λ s. (refl, tt))
-    ▸ one_tag 6 (word_item site_kind 6 (λ s. s.percolation) (between percolation_range) (one-length 6 2 refl refl refl) (λ s v. (refl, refl, refl)) (λ u v x h. rw (ne_eqb u 6 h))) (λ s. (refl, tt))
-    ▸ stand_tag
-    ▸ one_tag 8 (word_item site_kind 8 (λ s. s.immobilisation) (between immobilisation_range) (one-length 8 2 refl refl refl) (λ s v. (refl, refl, refl)) (λ u v x h. rw (ne_eqb u 8 h))) (λ s. (refl, tt))
-    ▸ one_tag 9 (byte_item site_kind 9 (λ s. s.available) (between available_range) (one-length 9 1 refl refl refl) (λ s v. (refl, refl, refl)) (λ u v x h. rw (ne_eqb u 9 h))) (λ s. (refl, tt))
-    ▸ one_tag 10 (word_item site_kind 10 (λ s. s.base_deposition) (between base_deposition_range) (one-length 10 2 refl refl refl) (λ s v. (refl, refl, refl)) (λ u v x h. rw (ne_eqb u 10 h))) (λ s. (refl, tt))
-    ▸ one_tag 11 (word_item site_kind 11 (λ s. s.ratio) (between ratio_range) (one-length 11 2 refl refl refl) (λ s v. (refl, refl, refl)) (λ u v x h. rw (ne_eqb u 11 h))) (λ s. (refl, tt))
-    ▸ one_tag 12 (word_item site_kind 12 (λ s. s.gibbsite) (between gibbsite_range) (one-length 12 2 refl refl refl) (λ s v. (refl, refl, refl)) (λ u v x h. rw (ne_eqb u 12 h))) (λ s. (refl, tt))
-    ▸ one_tag 13 (word_item site_kind 13 (λ s. s.ceiling) (between ceiling_range) (one-length 13 2 refl refl refl) (λ s v. (refl, refl, refl)) (λ u v x h. rw (ne_eqb u 13 h))) (λ s. (refl, tt))
-    ▸ one_tag 14 (word_item site_kind 14 (λ s. s.leachate) (between leachate_range) (one-length 14 2 refl refl refl) (λ s v. (refl, refl, refl)) (λ u v x h. rw (ne_eqb u 14 h))) (λ s. (refl, tt))
-    ▸ one_tag 15 (words_item site_kind 15 (λ s. (s.sulphur, s.nitrogen)) (λ b. (Ok tt)) (one-length 15 4 refl refl refl) (λ s v. (refl, refl, refl)) (λ u v x h. rw (ne_eqb u 15 h))) (λ s. (refl, tt))
-    ▸ none
+  stand_again : (s : Site) → Sized s → count_rule 7 s ≡ Ok tt → value_rule 7 s ≡ Ok tt → (x : Site) → field_rule (site_kind k) 7 (value 7 s) x ≡ Ok tt
+  unfolding value value_rule store field_rule
+  stand_again s z c e x =
+      let es = take s.stand.count s.stand.entries in
+      let b = bytes_long s z c in
+      let l = stand_long s z c in
+      let k = stand_counts s z c in
+      let n4 : length es ≤ 4 = omega arith in
+      let t : take s.stand.count (tabulate 4 (λ i. get_or es i no_entry)) ≡ es = rw l at (take-tabulate 4 es no_entry n4) in
+      rw (b, parts_permitted 7 (4 * s.stand.count) (omega arith) (omega arith) (omega arith), quarter, stand_back 4 es, t) e
+
+  name_tag : TagLaws 1
+  unfolding value value_rule store
+  name_tag =
+      many_part 1
+      (record { own = λ v x p b. name_kept v (parts_passed (site_kind k) 1 v x p).0; other = λ u v x h. rw (ne_eqb u 1 h) })
+      name_own name_other (λ u v x h e. rw (ne_eqb u 1 h) e) name_again
+
+  stand_tag : TagLaws 7
+  unfolding value value_rule store
+  stand_tag =
+      many_part 7
+      (record { own = λ v x p b. stand_kept v (parts_passed (site_kind k) 7 v x p).0 b; other = λ u v x h. rw (ne_eqb u 7 h) })
+      stand_own stand_other (λ u v x h e. rw (ne_eqb u 7 h) e) stand_again
+
+  -- ---- all fields: a line for each tag
+
+  -- 01 to 0F, and what follows them
+  with_base : (ts : List ℕ) → All TagLaws ts → All TagLaws (1 ∷ 2 ∷ 3 ∷ 4 ∷ 5 ∷ 6 ∷ 7 ∷ 8 ∷ 9 ∷ 10 ∷ 11 ∷ 12 ∷ 13 ∷ 14 ∷ 15 ∷ ts)
+  unfolding value value_rule store count_rule item_count Tidy length_permitted
+  with_base ts more =
+      name_tag
+      ▸ one_tag 2 (byte_item (site_kind k) 2 (λ s. s.parent) (between parent_range) (one-length 2 1 refl refl refl) (λ s v. (refl, refl, refl)) (λ u v x h. rw (ne_eqb u 2 h))) (λ s. (refl, tt))
+      ▸ one_tag 3 (pair_item (site_kind k) 3 (λ s. (s.clay, s.sand)) (λ b. ranged (leb (b.0 + b.1) 100)) (one-length 3 2 refl refl refl) (λ s v. (refl, refl, refl)) (λ u v x h. rw (ne_eqb u 3 h))) (λ s. (refl, tt))
+      ▸ one_tag 4 (byte_item (site_kind k) 4 (λ s. s.depth) (between depth_range) (one-length 4 1 refl refl refl) (λ s v. (refl, refl, refl)) (λ u v x h. rw (ne_eqb u 4 h))) (λ s. (refl, tt))
+      ▸ one_tag 5 (byte_item (site_kind k) 5 (λ s. s.drainage) (between drainage_range) (one-length 5 1 refl refl refl) (λ s v. (refl, refl, refl)) (λ u v x h. rw (ne_eqb u 5 h))) (λ s. (refl, tt))
+      ▸ one_tag 6 (word_item (site_kind k) 6 (λ s. s.percolation) (between percolation_range) (one-length 6 2 refl refl refl) (λ s v. (refl, refl, refl)) (λ u v x h. rw (ne_eqb u 6 h))) (λ s. (refl, tt))
+      ▸ stand_tag
+      ▸ one_tag 8 (word_item (site_kind k) 8 (λ s. s.immobilisation) (between immobilisation_range) (one-length 8 2 refl refl refl) (λ s v. (refl, refl, refl)) (λ u v x h. rw (ne_eqb u 8 h))) (λ s. (refl, tt))
+      ▸ one_tag 9 (byte_item (site_kind k) 9 (λ s. s.available) (between available_range) (one-length 9 1 refl refl refl) (λ s v. (refl, refl, refl)) (λ u v x h. rw (ne_eqb u 9 h))) (λ s. (refl, tt))
+      ▸ one_tag 10 (word_item (site_kind k) 10 (λ s. s.base_deposition) (between base_deposition_range) (one-length 10 2 refl refl refl) (λ s v. (refl, refl, refl)) (λ u v x h. rw (ne_eqb u 10 h))) (λ s. (refl, tt))
+      ▸ one_tag 11 (word_item (site_kind k) 11 (λ s. s.ratio) (between ratio_range) (one-length 11 2 refl refl refl) (λ s v. (refl, refl, refl)) (λ u v x h. rw (ne_eqb u 11 h))) (λ s. (refl, tt))
+      ▸ one_tag 12 (word_item (site_kind k) 12 (λ s. s.gibbsite) (between gibbsite_range) (one-length 12 2 refl refl refl) (λ s v. (refl, refl, refl)) (λ u v x h. rw (ne_eqb u 12 h))) (λ s. (refl, tt))
+      ▸ one_tag 13 (word_item (site_kind k) 13 (λ s. s.ceiling) (between ceiling_range) (one-length 13 2 refl refl refl) (λ s v. (refl, refl, refl)) (λ u v x h. rw (ne_eqb u 13 h))) (λ s. (refl, tt))
+      ▸ one_tag 14 (word_item (site_kind k) 14 (λ s. s.leachate) (between leachate_range) (one-length 14 2 refl refl refl) (λ s v. (refl, refl, refl)) (λ u v x h. rw (ne_eqb u 14 h))) (λ s. (refl, tt))
+      ▸ one_tag 15 (words_item (site_kind k) 15 (λ s. (s.sulphur, s.nitrogen)) (λ b. (Ok tt)) (one-length 15 4 refl refl refl) (λ s v. (refl, refl, refl)) (λ u v x h. rw (ne_eqb u 15 h))) (λ s. (refl, tt))
+      ▸ more
+
+  temperature_tag : TagLaws 16
+  unfolding value value_rule store count_rule item_count Tidy length_permitted
+  temperature_tag =
+      one_tag 16 (byte_item (site_kind k) 16 (λ s. s.temperature) (between temperature_range) (one-length 16 1 refl refl refl) (λ s v. (refl, refl, refl)) (λ u v x h. rw (ne_eqb u 16 h))) (λ s. (refl, tt))
+
+pub tags : (k : RecordKind) → All (TagLaws k) (due k)
+tags Tag52 = with_base Tag52 [] none
+tags Tag53 = with_base Tag53 (16 ∷ []) (temperature_tag Tag53 ▸ none)

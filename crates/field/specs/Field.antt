@@ -6,12 +6,16 @@ use Rattle.site.specs.Bounds.{no_entry}
 use Rattle.numbers.specs.TwoBytes.{word_at, word_bytes}
 use Rattle.site.specs.Bytes.{tabulate, name_in, entry_at}
 use Rattle.site.specs.Choice.{pick}
-use Rattle.site.specs.Values.{due, length_permitted, value_rule}
+use Rattle.site.specs.declared.RecordKind.{RecordKind}
+use Rattle.site.specs.declared.RecordKind.TheVariants.{Tag52}
+use Rattle.site.specs.Kinds.{kind_tag, due, usual_temperature}
+use Rattle.site.specs.Values.{length_permitted, value_rule}
 use Rattle.field.specs.Kind.{Kind}
 
 -- the value v of the field with tag t, put into s; past v's end stand zeros
 unfoldable pub store : ℕ → List ℕ → Site → Site
 store t v s = record {
+  kind = s.kind;
   name = pick (eqb t 1) (record { bytes = name_in v; len = length v }) s.name;
   parent = pick (eqb t 2) (get_or v 0 0) s.parent;
   clay = pick (eqb t 3) (get_or v 0 0) s.clay;
@@ -29,6 +33,7 @@ store t v s = record {
   leachate = pick (eqb t 14) (word_at v 0) s.leachate;
   sulphur = pick (eqb t 15) (word_at v 0) s.sulphur;
   nitrogen = pick (eqb t 15) (word_at v 2) s.nitrogen;
+  temperature = pick (eqb t 16) (get_or v 0 0) s.temperature;
 }
 
 -- the bytes of entries
@@ -36,9 +41,10 @@ unfoldable pub entries_bytes : List Entry → List ℕ
 entries_bytes [] = []
 entries_bytes (e ∷ es) = e.species ∷ e.share ∷ word_bytes e.yield_kg ++ entries_bytes es
 
--- the site that reading starts from
+-- the site that reading a record of kind 52 starts from; the temperature is that of 8 °C
 unfoldable pub blank_site : Site
 blank_site = record {
+  kind = Tag52;
   name = record { bytes = replicate 8 0; len = 0 };
   parent = 0;
   clay = 0;
@@ -56,7 +62,12 @@ blank_site = record {
   leachate = 0;
   sulphur = 0;
   nitrogen = 0;
+  temperature = usual_temperature;
 }
+
+-- and of every kind
+unfoldable pub blank_of : RecordKind → Site
+blank_of k = record blank_site { kind = k }
 
 -- the bytes of the values, by tag from 0
 abbrev pub values : Site → List (List ℕ)
@@ -77,16 +88,17 @@ values s =
     ∷ word_bytes s.ceiling  -- 0D
     ∷ word_bytes s.leachate  -- 0E
     ∷ (word_bytes s.sulphur ++ word_bytes s.nitrogen)  -- 0F
+    ∷ (s.temperature ∷ [])  -- 10
     ∷ []
 
 -- the bytes of the value with tag t; another tag has none
 unfoldable pub value : ℕ → Site → List ℕ
 value t s = get_or (values s) t []
 
--- the record of a site: outer tag 52
-abbrev pub site_kind : Kind Site
-site_kind =
-    record { tag = 82; due = due; blank = blank_site; permitted = length_permitted; store = store; rule = value_rule; bytes = value }
+-- the record of a site, by its kind
+abbrev pub site_kind : RecordKind → Kind Site
+site_kind k =
+    record { tag = kind_tag k; due = due k; blank = blank_of k; permitted = length_permitted; store = store; rule = value_rule; bytes = value }
 
 -- the site with the field's value, where its length is permitted: also if rules 8 to 10 refuse it
 unfoldable pub taken : ℕ → List ℕ → Site → Site

@@ -1,12 +1,12 @@
-// The blank site, which reading starts from: field by field. A derived `Default` needs a law of arrays and an answer that names each field again.
+// The blank site of a kind, which reading starts from: field by field. A derived `Default` needs a law of arrays and an answer that names each field again.
 ghost use Rattle.std.specs.Prelude.{◌≡◌};
-ghost use Rattle.field.specs.Field.{blank_site};
+ghost use Rattle.field.specs.Field.{blank_of};
 
-use site::{Entry, Name, Site, Stand};
+use site::{Entry, Name, RecordKind, Site, Stand};
 
-#[tactic(auto, unfolding(crate::specs::Field::blank_site))]
-pub fn blank() -> Site
-    ensures { result ≡ blank_site }
+#[tactic(auto, unfolding(crate::specs::Field::blank_of, crate::specs::Field::blank_site))]
+pub fn blank(kind: RecordKind) -> Site
+    ensures { result ≡ blank_of kind }
 {
     let no_entry = Entry {
         species: 0,
@@ -14,6 +14,7 @@ pub fn blank() -> Site
         yield_kg: 0,
     };
     Site {
+        kind,
         name: Name {
             bytes: [0; 8],
             len: 0,
@@ -37,5 +38,7 @@ pub fn blank() -> Site
         leachate: 0,
         sulphur: 0,
         nitrogen: 0,
+        // 8 °C, which counts where the kind has no such field
+        temperature: 13,
     }
 }

@@ -48,6 +48,7 @@ fn store(site: &mut Site, tag: u8, value: &[u8])
             site.sulphur = word_at(value, 0);
             site.nitrogen = word_at(value, 2);
         }
+        16 => site.temperature = byte(value, 0),
         // no other tag has a permitted length
         _ => {}
     }
@@ -56,9 +57,9 @@ fn store(site: &mut Site, tag: u8, value: &[u8])
 // Rules 7 to 10 of a field. Its value stands in the site where its length is permitted, also if rules 8 to 10 refuse it.
 #[tactic(auto, using(crate::proofs::TakenLaws::field_numbered), unfolding(crate::specs::Field::taken, crate::specs::Kind::field_rule))]
 pub fn take_field(site: &mut Site, tag: u8, value: &[u8]) -> Result<(), Rule>
-    ensures answer { result ≡ field_rule site_kind tag value.now site.old }
+    ensures answer { result ≡ field_rule (site_kind site.old.kind) tag value.now site.old }
     ensures stored { site.new ≡ taken tag value.now site.old }
-    ensures number { Numbered (field_rule site_kind tag value.now site.old) (checked_number result) }
+    ensures number { Numbered (field_rule (site_kind site.old.kind) tag value.now site.old) (checked_number result) }
 {
     if !length_permitted(tag, value.len()) {
         return Err(Rule::BadLength);

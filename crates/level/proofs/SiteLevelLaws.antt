@@ -25,7 +25,7 @@ module _ (s : Site) where
   -- rule 8 for percolation, gibbsite constant and ceiling is a part of the site's check
   search_passed : site_rule s ≡ Ok tt → level_rule s.percolation s.gibbsite s.ceiling ≡ Ok tt
   unfolding level_rule and_then value_rule
-  search_passed e = rw ((site_passed s e 5 (omega arith)).1, (site_passed s e 11 (omega arith)).1) (site_passed s e 12 (omega arith)).1
+  search_passed e = rw ((site_passed s e 6 (omega arith) (omega arith)).1, (site_passed s e 12 (omega arith) (omega arith)).1) (site_passed s e 13 (omega arith) (omega arith)).1
 
   pub search_at : site_rule s ≡ Ok tt → level_answer s.percolation s.gibbsite (terms_of s).A s.ceiling ≡ site_level s
   unfolding level_answer site_level and_then searched_at terms_of

@@ -44,7 +44,7 @@ name_free b n (x ∷ xs) e =
 
 pub site_name_free : (b : ℕ) → name_byte b ≡ false → (s : Site) → site_rule s ≡ Ok tt → free b (name_text (row_of s)) ≡ true
 unfolding row_of row_by name_text value_rule
-site_name_free b n s p = name_free b n _ (ranged_passed _ (site_passed s p 0 (omega arith)).1)
+site_name_free b n s p = name_free b n _ (ranged_passed _ (site_passed s p 1 (omega arith) (omega arith)).1)
 
 no_end : name_byte 10 ≡ false
 unfolding name_byte

@@ -3,6 +3,8 @@ use Rattle.std.specs.Prelude.{◌≡◌, refl, [], ◌∷◌}
 use Rattle.site.specs.ExampleSite.{a1}
 use Rattle.loads.specs.Rounding.{up}
 use Rattle.loads.specs.Texture.{texture_of}
+use Rattle.site.specs.Kinds.{temperature_of}
+use Rattle.loads.specs.Temperature.{temperature_factor}
 use Rattle.loads.specs.Weathering.{class_of, weathering_of, weathering, available_weathering}
 use Rattle.loads.specs.Uptake.{content, nitrogen_in, base_in, weight_of, stand_sum, nitrogen_uptake, base_demand, base_uptake_of, base_uptake}
 use Rattle.loads.specs.Hydrogen.{hydrogen_of, al_of, greatest_where, level_of, hydrogen, aluminium, greatest_level, critical_leaching}
@@ -20,5 +22,5 @@ terms :
     weathering a1 ∷ available_weathering a1 ∷ t1.Nu ∷ base_uptake a1 ∷ t1.A ∷ greatest_level t1
     ∷ aluminium t1 819 ∷ critical_leaching t1 ∷ t1.L ∷ cl_max_s t1 ∷ cl_min_n t1 ∷ cl_max_n t1 ∷ cl_nut_n t1 ∷ []
     ≡ 125 ∷ 100 ∷ 155 ∷ 181 ∷ 328 ∷ 818 ∷ 329 ∷ 491 ∷ 40 ∷ 735 ∷ 205 ∷ 1021 ∷ 249 ∷ []
-unfolding terms_of up texture_of class_of weathering_of weathering available_weathering content nitrogen_in base_in weight_of stand_sum nitrogen_uptake base_demand base_uptake_of base_uptake base_supply aluminium_limit hydrogen_of al_of greatest_where level_of hydrogen aluminium greatest_level critical_leaching denitrified undenitrified leaching cl_max_s cl_min_n cl_max_n cl_nut_n
+unfolding terms_of up temperature_of temperature_factor texture_of class_of weathering_of weathering available_weathering content nitrogen_in base_in weight_of stand_sum nitrogen_uptake base_demand base_uptake_of base_uptake base_supply aluminium_limit hydrogen_of al_of greatest_where level_of hydrogen aluminium greatest_level critical_leaching denitrified undenitrified leaching cl_max_s cl_min_n cl_max_n cl_nut_n
 terms = refl

@@ -1,5 +1,6 @@
 pub mod Numbers
 pub mod Tables
+pub mod TemperatureLaws
 pub mod DenitrifiedLaws
 pub mod TextureLaws
 pub mod UptakeLaws

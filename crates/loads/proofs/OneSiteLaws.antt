@@ -2,6 +2,7 @@
 use mathlib.Core.Path.{◌≡◌}
 use Rattle.site.specs.declared.Site.{Site}
 use Rattle.site.specs.OneSite.{OneSite}
+use Rattle.loads.specs.Temperature.{temperature_factor}
 use Rattle.loads.specs.Weathering.{weathering, available_weathering}
 use Rattle.loads.specs.Uptake.{stand_sum, nitrogen_uptake, base_demand, base_uptake}
 use Rattle.loads.specs.Supply.{base_supply, aluminium_limit}
@@ -9,5 +10,5 @@ use Rattle.loads.specs.Nitrogen.{undenitrified, leaching}
 use Rattle.loads.specs.SiteTerms.{terms_of}
 
 pub terms_same : (s t : Site) → OneSite s t → terms_of s ≡ terms_of t
-unfolding terms_of weathering available_weathering stand_sum nitrogen_uptake base_demand base_uptake base_supply aluminium_limit undenitrified leaching
+unfolding terms_of temperature_factor weathering available_weathering stand_sum nitrogen_uptake base_demand base_uptake base_supply aluminium_limit undenitrified leaching
 terms_same s t one = cc

@@ -8,7 +8,7 @@ use Rattle.site.specs.Ranges.{depth_range, available_range}
 use Rattle.site.specs.Bounds.{Bounds}
 use Rattle.site.specs.declared.Site.{Site}
 use Rattle.loads.specs.Rounding.{up}
-use Rattle.loads.specs.MostTerms.{most_weathering, most_available, most_a}
+use Rattle.loads.specs.MostTerms.{most_factor, most_weathering, most_available, most_a}
 use Rattle.loads.specs.Texture.{texture_of}
 use Rattle.loads.specs.Weathering.{class_of, weathering_of, weathering, available_of, available_weathering}
 use Rattle.loads.specs.Uptake.{base_in, nitrogen_in, stand_sum, uptake_divisor, nitrogen_uptake, base_demand, base_uptake_of, base_uptake}
@@ -20,11 +20,13 @@ use Rattle.loads.specs.SiteTerms.{terms_of}
 use Rattle.loads.specs.CriticalLoads.{cl_max_s, cl_min_n}
 use Rattle.loads.proofs.Numbers.{prod, part_le, quotient_le, pick-le}
 use Rattle.loads.proofs.Tables.{class_le}
+use Rattle.loads.proofs.TemperatureLaws.{site_factor_le}
+use Rattle.loads.specs.Temperature.{temperature_factor}
 use Rattle.loads.proofs.TextureLaws.{texture_between}
 use Rattle.loads.proofs.DenitrifiedLaws.{undenitrified-pos, undenitrified_most}
 
 module _ (s : Site) where
-  pub weathering_is : weathering s ≡ weathering_of s.parent s.clay s.sand s.depth
+  pub weathering_is : weathering s ≡ weathering_of s.parent s.clay s.sand s.depth (temperature_factor s)
   unfolding weathering
   weathering_is = refl
 
@@ -81,6 +83,7 @@ module _ (s : Site) (b : Bounds s) where
       let t = texture_between s.clay s.sand in
       let k = class_le s.parent (texture_of s.clay s.sand) b.parent t.0 t.1 in
       let whole : (500 * class_of s.parent (texture_of s.clay s.sand) - 250) * s.depth ≤ 9750 * depth_range.most = prod 9750 depth_range.most (omega arith) b.depth in
+      let warmed = prod (9750 * depth_range.most) most_factor whole (site_factor_le s b) in
       pick-le (eqb s.parent 0) (omega arith) (omega arith)
 
   available_within : available_weathering s ≤ weathering s

@@ -2,6 +2,8 @@ pub mod Rounding
 pub mod MostTerms
 pub mod Terms
 pub mod Texture
+pub mod Fractions
+pub mod Temperature
 pub mod Weathering
 pub mod Uptake
 pub mod Supply

@@ -3,19 +3,23 @@ use Rattle.std.specs.Prelude.{ℕ, ◌+◌, ◌*◌, ◌-◌, ◌/◌}
 use Rattle.site.specs.Ranges.{depth_range, percolation_range, most_entries, share_range, most_yield, immobilisation_range, available_range, base_deposition_range, ratio_range, ceiling_range, leachate_range}
 use Rattle.loads.specs.Uptake.{uptake_divisor}
 
--- W, at class 20; 19500
-abbrev pub most_weathering : ℕ
-most_weathering = (500 * 20 - 250) * depth_range.most / 100
+-- t, at 20 °C
+abbrev pub most_factor : ℕ
+most_factor = 1690
 
--- w; 16575
+-- W, at class 20; 32955
+abbrev pub most_weathering : ℕ
+most_weathering = (500 * 20 - 250) * depth_range.most * most_factor / 100000
+
+-- w; 28011
 abbrev pub most_available : ℕ
 most_available = most_weathering * available_range.most / 100
 
--- B + W − Bu; 24500
+-- B + W − Bu; 37955
 abbrev pub most_supply : ℕ
 most_supply = base_deposition_range.most + most_weathering
 
--- A; 323625
+-- A; 495165
 abbrev pub most_a : ℕ
 most_a = 1500 * (base_deposition_range.most + most_available) / ratio_range.least
 
@@ -27,7 +31,7 @@ most_hydrogen = percolation_range.most * ceiling_range.most / 1000
 abbrev pub most_l : ℕ
 most_l = percolation_range.most * leachate_range.most / 100
 
--- CLmaxS; 363125
+-- CLmaxS; 548120
 abbrev pub most_max_s : ℕ
 most_max_s = most_supply + most_hydrogen + most_a
 
@@ -50,7 +54,7 @@ most_d = 800
 abbrev pub least_e : ℕ
 least_e = 1000 - most_d
 
--- CLmaxN; 1868553
+-- CLmaxN; 2793528
 abbrev pub most_max_n : ℕ
 most_max_n = most_min_n + 1000 * most_max_s / least_e
 

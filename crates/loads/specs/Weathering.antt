@@ -3,6 +3,7 @@ use Rattle.std.specs.Prelude.{ℕ, ◌*◌, ◌-◌, ◌/◌, List, [], ◌∷�
 use Rattle.site.specs.Choice.{pick}
 use Rattle.site.specs.declared.Site.{Site}
 use Rattle.loads.specs.Texture.{texture_of}
+use Rattle.loads.specs.Temperature.{temperature_factor}
 
 -- class k by texture 1 to 5
 abbrev pub classes : List (List ℕ)
@@ -18,11 +19,11 @@ unfoldable pub class_of : (parent texture : ℕ) → ℕ
 class_of parent texture = get_or (get_or classes parent []) (texture - 1) 0
 
 -- W
-unfoldable pub weathering_of : (parent clay sand depth : ℕ) → ℕ
-weathering_of parent clay sand depth = pick (eqb parent 0) 0 ((500 * class_of parent (texture_of clay sand) - 250) * depth / 100)
+unfoldable pub weathering_of : (parent clay sand depth t : ℕ) → ℕ
+weathering_of parent clay sand depth t = pick (eqb parent 0) 0 ((500 * class_of parent (texture_of clay sand) - 250) * depth * t / 100000)
 
 unfoldable pub weathering : Site → ℕ
-weathering s = weathering_of s.parent s.clay s.sand s.depth
+weathering s = weathering_of s.parent s.clay s.sand s.depth (temperature_factor s)
 
 -- w, where weathered is W and share is p
 abbrev pub available_of : (weathered share : ℕ) → ℕ

@@ -5,6 +5,7 @@ mod bases;
 mod critical;
 mod hydrogen;
 mod nitrogen;
+mod temperature;
 mod texture;
 mod uptake;
 mod valid;

@@ -1,6 +1,7 @@
 // Weathering W.
-ghost use Rattle.std.specs.Prelude.{◌≡◌, ◌≤◌};
-ghost use Rattle.loads.specs.MostTerms.{most_weathering};
+ghost use Rattle.std.specs.Prelude.{◌≡◌, ◌≤◌, ◌*◌, ◌-◌, ◌/◌};
+ghost use Rattle.site.specs.Ranges.{depth_range};
+ghost use Rattle.loads.specs.MostTerms.{most_factor, most_weathering};
 ghost use Rattle.loads.specs.Weathering.{weathering};
 
 use crate::texture::texture_of;
@@ -15,9 +16,18 @@ const CLASSES: [[u64; 5]; 5] = [
     [20, 20, 20, 20, 20],
 ];
 
+// W of class k, root depth z and t
+#[tactic(auto, using(crate::proofs::Numbers::prod))]
+fn weathered(k: u64, z: u64, t: u64) -> u64
+    requires { (1 ≤ k) × (k ≤ 20) × (z ≤ depth_range.most) × (t ≤ most_factor) }
+    ensures { (result ≡ (500 * k - 250) * z * t / 100000) × (result ≤ most_weathering) }
+{
+    (500 * k - 250) * z * t / 100_000
+}
+
 impl ValidSite {
     // W
-    #[tactic(auto, using(crate::proofs::Numbers::prod, crate::proofs::Tables::class_le, crate::proofs::Tables::class_pos, crate::proofs::TextureLaws::texture_between), unfolding(crate::specs::Weathering::weathering, crate::specs::Weathering::weathering_of, crate::specs::Weathering::class_of))]
+    #[tactic(auto, using(crate::proofs::Tables::class_le, crate::proofs::Tables::class_pos, crate::proofs::TextureLaws::texture_between), unfolding(crate::specs::Weathering::weathering, crate::specs::Weathering::weathering_of, crate::specs::Weathering::class_of))]
     pub fn weathering(self) -> u64
         ensures { (result ≡ weathering self.site) × (result ≤ most_weathering) }
     {
@@ -27,6 +37,6 @@ impl ValidSite {
         }
         let texture = texture_of(s.clay, s.sand);
         let k = CLASSES[usize::from(s.parent)][texture.place()];
-        (500 * k - 250) * u64::from(s.depth) / 100
+        weathered(k, u64::from(s.depth), self.temperature_factor())
     }
 }

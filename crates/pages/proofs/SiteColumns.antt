@@ -68,7 +68,7 @@ module _ (s : Site) (passed : site_rule s ≡ Ok tt) (pair : PairRange s) where
   name_whole : Whole 8 (take s.name.len s.name.bytes)
   unfolding item_count name_text row_of row_by
   name_whole =
-      let few = count_parts 1 s (site_passed s passed 0 (omega arith)).0 in
+      let few = count_parts 1 s (site_passed s passed 1 (omega arith) (omega arith)).0 in
       record { fits = simp length-take (omega (arith, few.1)); no_space = site_name_free 32 no_space s passed }
 
   acid_small : acid_exceedance (terms_of s) s.sulphur s.nitrogen < 10 ^ 7

@@ -1,13 +1,15 @@
 -- Laws of a record's bytes: its fields one after another, for every kind, and the length of a site's record.
 use mathlib.Core.Path.{◌≡◌, refl, ap, ◌∙◌}
 use mathlib.Core.List.{List, ◌∷◌, [], ◌++◌}
-use Prim.Native.Nat.{ℕ, ◌+◌, ◌*◌, ◌/◌, ◌%◌, ◌≤◌}
+use Prim.Native.Nat.{ℕ, ◌+◌, ◌-◌, ◌*◌, ◌/◌, ◌%◌, ◌≤◌}
 use native.Mathlib.Omega.{arith}
 use lib.ListN.{length, take, length-append}
 use Rattle.site.specs.declared.Site.{Site}
 use Rattle.std.specs.Prelude.{Ok, flat_map}
 use Rattle.site.specs.Check.{site_rule}
-use Rattle.site.specs.Values.{due}
+use Rattle.site.specs.declared.RecordKind.{RecordKind}
+use Rattle.site.specs.declared.RecordKind.TheVariants.{Tag52, Tag53}
+use Rattle.site.specs.Kinds.{kind_tag, due}
 use Rattle.site.proofs.FieldLaws.{site_passed}
 use Rattle.record.specs.FieldParts.{field_of}
 use Rattle.field.specs.Field.{entries_bytes, value, site_kind}
@@ -17,7 +19,7 @@ use Rattle.field.specs.Clean.{Sized}
 use Rattle.record.specs.Writer.{encode}
 use Rattle.output.specs.Writing.{Wrote, WroteIf}
 use Rattle.output.proofs.WritingLaws.{then, kept}
-use Rattle.record.proofs.Tags.{tags_from, tags_more}
+use Rattle.site.proofs.Tags.{tags_from, tags_more, due_tags}
 use Rattle.field.proofs.FieldValueLaws.{name_counts, name_long, stand_counts, bytes_long}
 
 -- head, then value: the field
@@ -34,16 +36,20 @@ field_put {n = n} t v w h same e head put =
     let len : n ≡ length v = e ∙ ap length same in
     field_wrote t v len head (rw same at (put.fits (omega (arith, h, head.next, kept head, ap length same))))
 
-pub fields_long : {A : Type 0} (K : Kind A) (x : A) (t : ℕ) → t ≤ 15
-    → length (encode_fields K (tags_from t) x) ≡ length (field_of t (K.bytes t x)) + length (encode_fields K (tags_from (t + 1)) x)
+pub fields_long : {A : Type 0} (K : Kind A) (x : A) (last t : ℕ) → t ≤ last
+    → length (encode_fields K (tags_from last t) x) ≡ length (field_of t (K.bytes t x)) + length (encode_fields K (tags_from last (t + 1)) x)
 unfolding encode_fields
-fields_long K x t h = rw (tags_more t h) (length-append (field_of t (K.bytes t x)) (encode_fields K (tags_from (t + 1)) x))
+fields_long K x last t h = rw (tags_more last t h) (length-append (field_of t (K.bytes t x)) (encode_fields K (tags_from last (t + 1)) x))
+
+-- all the fields of a site's record
+pub fields_first : (s : Site) → encode_fields (site_kind s.kind) (due s.kind) s ≡ encode_fields (site_kind s.kind) (tags_from (length (due s.kind)) 1) s
+fields_first s = ap (λ ts. encode_fields (site_kind s.kind) ts s) (due_tags s.kind)
 
 -- a field, then the others
-pub fields_more : {A : Type 0} (K : Kind A) (x : A) {l b c : List ℕ} {at q r : ℕ} (t : ℕ) → t ≤ 15
-    → Wrote l at (field_of t (K.bytes t x)) b q → Wrote b q (encode_fields K (tags_from (t + 1)) x) c r → Wrote l at (encode_fields K (tags_from t) x) c r
+pub fields_more : {A : Type 0} (K : Kind A) (x : A) {l b c : List ℕ} {at q r : ℕ} (last t : ℕ) → t ≤ last
+    → Wrote l at (field_of t (K.bytes t x)) b q → Wrote b q (encode_fields K (tags_from last (t + 1)) x) c r → Wrote l at (encode_fields K (tags_from last t) x) c r
 unfolding encode_fields
-fields_more K x t h v w = rw (tags_more t h) (then v w)
+fields_more K x last t h v w = rw (tags_more last t h) (then v w)
 
 module _ {A : Type 0} (K : Kind A) (s : A) where
   abbrev pub field_at : ℕ → List ℕ
@@ -66,25 +72,30 @@ module _ {A : Type 0} (K : Kind A) (s : A) where
   encode_wrote e v w = field_wrote K.tag (encode_fields K K.due s) e v w
 
 -- the same of a site
-pub record_wrote : {l b c : List ℕ} {at n q r : ℕ} (s : Site) → n ≡ length (encode_fields site_kind due s)
-    → Wrote l at (82 ∷ (n / 256) ∷ (n % 256) ∷ []) b q → Wrote b q (encode_fields site_kind due s) c r → Wrote l at (encode s) c r
-record_wrote s e v w = encode_wrote site_kind s e v w
+pub record_wrote : {l b c : List ℕ} {at n q r : ℕ} (s : Site) → n ≡ length (encode_fields (site_kind s.kind) (due s.kind) s)
+    → Wrote l at (kind_tag s.kind ∷ (n / 256) ∷ (n % 256) ∷ []) b q → Wrote b q (encode_fields (site_kind s.kind) (due s.kind) s) c r → Wrote l at (encode s) c r
+record_wrote s e v w = encode_wrote (site_kind s.kind) s e v w
 
--- 15 heads, 24 bytes of values of one length, the name and the entries
-fields_length : (s : Site) → length (encode_fields site_kind due s)
-    ≡ 69 + length (take s.name.len s.name.bytes) + length (entries_bytes (take s.stand.count s.stand.entries))
+-- 15 heads, 24 bytes of values of one length, the name and the entries; the fields after 0F have a head and one byte
+fields_length : (k : RecordKind) (s : Site) → length (encode_fields (site_kind k) (due k) s)
+    ≡ 69 + length (take s.name.len s.name.bytes) + length (entries_bytes (take s.stand.count s.stand.entries)) + 4 * (length (due k) - 15)
 unfolding encode_fields value field_of
-fields_length s = simp length-append (omega arith)
+fields_length Tag52 s = simp length-append (omega arith)
+fields_length Tag53 s = simp length-append (omega arith)
+
+few_due : (k : RecordKind) → length (due k) ≤ 16
+few_due Tag52 = omega arith
+few_due Tag53 = omega arith
 
 module _ (s : Site) (z : Sized s) (e : site_rule s ≡ Ok tt) where
-  pub record_length : length (encode s) ≡ 3 + (69 + s.name.len + 4 * s.stand.count)
+  pub record_length : length (encode s) ≡ 3 + (69 + s.name.len + 4 * s.stand.count + 4 * (length (due s.kind) - 15))
   record_length =
-      let n = name_long s z (site_passed s e 0 (omega arith)).0 in
-      let b = bytes_long s z (site_passed s e 6 (omega arith)).0 in
-      omega (arith, encode_length site_kind s, fields_length s)
+      let n = name_long s z (site_passed s e 1 (omega arith) (omega arith)).0 in
+      let b = bytes_long s z (site_passed s e 7 (omega arith) (omega arith)).0 in
+      omega (arith, encode_length (site_kind s.kind) s, fields_length s.kind s)
 
-  pub fields_small : length (encode_fields site_kind due s) ≤ 255
+  pub fields_small : length (encode_fields (site_kind s.kind) (due s.kind) s) ≤ 255
   fields_small =
-      let n = name_counts s z (site_passed s e 0 (omega arith)).0 in
-      let b = stand_counts s z (site_passed s e 6 (omega arith)).0 in
-      omega (arith, encode_length site_kind s, record_length)
+      let n = name_counts s z (site_passed s e 1 (omega arith) (omega arith)).0 in
+      let b = stand_counts s z (site_passed s e 7 (omega arith) (omega arith)).0 in
+      omega (arith, encode_length (site_kind s.kind) s, record_length, few_due s.kind)

@@ -5,14 +5,14 @@ use Prim.Native.Nat.{ℕ}
 use Rattle.std.specs.Prelude.{Ok}
 use Rattle.site.specs.ExampleSite.{a1}
 use Rattle.site.specs.Bytes.{tabulate, entry_at}
-use Rattle.field.specs.Field.{store, entries_bytes, blank_site, value}
+use Rattle.field.specs.Field.{store, entries_bytes, blank_site, blank_of, value}
 use Rattle.field.specs.Kind.{field_rule}
 use Rattle.site.specs.Values.{length_permitted, value_rule, stand_rule, between, name_byte, entry_ranged, rising_from, shares_of}
 use Rattle.record.specs.FieldParts.{field_of}
 use Rattle.site.specs.Refusal.{unless}
 use Rattle.record.specs.Fields.{head_rule, walk_fields, encode_fields, encode_as}
 use Rattle.record.specs.Records.{outer_rule, ending, record_in, only_one, single}
-use Rattle.record.specs.Outer.{site_at, read_record}
+use Rattle.record.specs.Outer.{site_tag, site_kinds, site_at, read_record}
 use Rattle.record.specs.Writer.{encode}
 
 abbrev pub bytes_a1 : List ℕ
@@ -36,7 +36,7 @@ bytes_a1 =
     ∷ []
 
 pub a1_read : read_record bytes_a1 ≡ Ok a1
-unfolding read_record single only_one site_at record_in ending outer_rule head_rule unless walk_fields field_rule length_permitted tabulate entry_at store value_rule stand_rule between name_byte entry_ranged rising_from shares_of blank_site
+unfolding read_record single only_one site_at record_in ending outer_rule head_rule unless walk_fields field_rule length_permitted tabulate entry_at store value_rule stand_rule between name_byte entry_ranged rising_from shares_of blank_of blank_site site_tag site_kinds
 a1_read = refl
 
 pub a1_written : encode a1 ≡ bytes_a1

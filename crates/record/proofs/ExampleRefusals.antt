@@ -8,14 +8,14 @@ use Rattle.site.specs.Refusal.{and_then, unless}
 use Rattle.site.specs.Check.{fields_rule, site_rule}
 use Rattle.site.specs.Bytes.{tabulate, entry_at}
 use Rattle.site.specs.Values.{length_permitted, item_count, count_rule, value_rule, stand_rule, between, name_byte, entry_ranged, rising_from, shares_of}
-use Rattle.field.specs.Field.{store, entries_bytes, blank_site, value}
+use Rattle.field.specs.Field.{store, entries_bytes, blank_site, blank_of, value}
 use Rattle.field.specs.Kind.{field_rule}
 use Rattle.output.specs.Output.{room_rule, output_rule, output_numbers}
 use Rattle.record.specs.FieldParts.{field_of}
 use Rattle.record.specs.Result.{result_numbers}
 use Rattle.record.specs.Fields.{head_rule, walk_fields, encode_fields, encode_as}
 use Rattle.record.specs.Records.{outer_rule, ending, record_in, only_one, single}
-use Rattle.record.specs.Outer.{site_at, read_record}
+use Rattle.record.specs.Outer.{site_tag, site_kinds, site_at, read_record}
 use Rattle.record.specs.Writer.{write_rule}
 use Rattle.record.proofs.ExampleRecord.{bytes_a1}
 
@@ -33,7 +33,7 @@ refusals =
     ∷ record { bytes = 82 ∷ 0 ∷ []; given = (2, 0) }
     ∷ record { bytes = 82 ∷ 1 ∷ 0 ∷ []; given = (2, 0) }  -- a length of 256
     ∷ record { bytes = 82 ∷ 0 ∷ 1 ∷ []; given = (2, 0) }  -- beyond the end
-    ∷ record { bytes = 83 ∷ 0 ∷ 0 ∷ []; given = (3, 0) }
+    ∷ record { bytes = 84 ∷ 0 ∷ 0 ∷ []; given = (3, 0) }
     ∷ record { bytes = bytes_a1 ++ 82 ∷ []; given = (4, 78) }
     ∷ record { bytes = 82 ∷ 0 ∷ 1 ∷ 1 ∷ []; given = (5, 3) }
     ∷ record { bytes = 82 ∷ 0 ∷ 4 ∷ 1 ∷ 0 ∷ 2 ∷ 65 ∷ []; given = (5, 3) }  -- beyond its record
@@ -45,8 +45,8 @@ refusals =
     ∷ record { bytes = 82 ∷ 0 ∷ 38 ∷ to_stand ++ 7 ∷ 0 ∷ 8 ∷ 1 ∷ 50 ∷ 7 ∷ 208 ∷ 1 ∷ 50 ∷ 7 ∷ 208 ∷ []; given = (9, 30) }
     ∷ record { bytes = 82 ∷ 0 ∷ 34 ∷ to_stand ++ 7 ∷ 0 ∷ 4 ∷ 0 ∷ 99 ∷ 7 ∷ 208 ∷ []; given = (10, 30) }
     -- two faults at one place: the first in 01's order
-    ∷ record { bytes = 83 ∷ 0 ∷ []; given = (2, 0) }  -- under 3 bytes, then the tag
-    ∷ record { bytes = 83 ∷ 255 ∷ 255 ∷ []; given = (3, 0) }  -- the tag, then the length
+    ∷ record { bytes = 84 ∷ 0 ∷ []; given = (2, 0) }  -- under 3 bytes, then the tag
+    ∷ record { bytes = 84 ∷ 255 ∷ 255 ∷ []; given = (3, 0) }  -- the tag, then the length
     ∷ record { bytes = 82 ∷ 0 ∷ 1 ∷ 2 ∷ []; given = (5, 3) }  -- under 3 bytes, then the tag
     ∷ record { bytes = 82 ∷ 0 ∷ 4 ∷ 2 ∷ 0 ∷ 5 ∷ 65 ∷ []; given = (6, 3) }  -- the tag, then the length
     ∷ record { bytes = 82 ∷ 0 ∷ 4 ∷ 1 ∷ 0 ∷ 9 ∷ 97 ∷ []; given = (5, 3) }  -- the length beyond its record, then the length that is not permitted
@@ -56,7 +56,7 @@ refusals =
     ∷ []
 
 refusals_agree : map (λ (r : Refusal). result_numbers (read_record r.bytes)) refusals ≡ map (λ (r : Refusal). r.given) refusals
-unfolding result_numbers read_record single only_one site_at record_in ending outer_rule head_rule unless walk_fields field_rule length_permitted tabulate entry_at store value_rule stand_rule between name_byte entry_ranged rising_from shares_of blank_site
+unfolding result_numbers read_record single only_one site_at record_in ending outer_rule head_rule unless walk_fields field_rule length_permitted tabulate entry_at store value_rule stand_rule between name_byte entry_ranged rising_from shares_of blank_of blank_site site_tag site_kinds
 refusals_agree = refl
 
 -- A1 has 78 bytes, and 77 are lent

@@ -1,7 +1,6 @@
 pub mod ValueBytesLaws
 pub mod FieldBytes
 pub mod ResultLaws
-pub mod Tags
 pub mod WalkLaws
 pub mod Trips
 pub mod RecordLaws

@@ -1,21 +1,25 @@
 -- Laws of the site's record at an offset, as the code makes it.
-use mathlib.Core.Path.{◌≡◌}
+use mathlib.Core.Path.{◌≡◌, refl}
+use mathlib.Core.Bool.{false≢true}
 use mathlib.Core.List.{List, []}
 use Prim.Native.Nat.{ℕ, ◌+◌, ◌-◌, ◌≤◌}
 use native.Mathlib.Nat.{add-sub_cancel_left, add_assoc}
 use native.Mathlib.Omega.{arith}
-use lib.ListN.{length, take, drop, length-drop, drop_of_length-le}
-use Rattle.std.specs.Prelude.{Ok, Err}
+use lib.ListN.{length, get_or, take, drop, length-drop, drop_of_length-le}
+use Rattle.std.specs.Prelude.{Result, Ok, Err}
 use Rattle.site.specs.declared.Site.{Site}
 use Rattle.site.specs.declared.Refusal.{Refusal}
 use Rattle.site.specs.declared.Rule.{Rule}
 use Rattle.site.specs.declared.Rule.TheVariants.{OuterCut}
 use Rattle.field.specs.Field.{site_kind}
-use Rattle.site.specs.Refusal.{unless}
+use Rattle.site.specs.Refusal.{Checked, and_then, unless}
+use Rattle.site.proofs.ByCheckLaws.{then_ok}
+use Rattle.site.specs.declared.RecordKind.{RecordKind}
+use Rattle.site.specs.Kinds.{kind_by}
 use Rattle.record.specs.FieldParts.{stated_len}
 use Rattle.record.specs.Fields.{fields_in}
 use Rattle.record.specs.Records.{outer_rule, ending, record_in}
-use Rattle.record.specs.Outer.{site_tag, site_at, found_of, record_at}
+use Rattle.record.specs.Outer.{site_tag, site_kinds, site_at, found_of, record_at}
 use Rattle.record.proofs.RecordLaws.{outer_passed}
 
 -- no byte is left at the offset
@@ -35,17 +39,50 @@ outer_fits bs e = (outer_passed site_tag bs e).inside
 pub outer_inside : (f : List ℕ) (at : ℕ) → outer_rule site_tag (drop at f) ≡ Ok tt → at + 3 + stated_len (drop at f) ≤ length f
 outer_inside f at e = omega (arith, outer_fits (drop at f) e, length-drop at f)
 
+-- what the code's reading of an outer field says: its rule, and the kind where it passes
+pub record OuterKind (bs : List ℕ) (k : RecordKind) : Type 0 where
+  pub passed : outer_rule site_tag bs ≡ Ok tt
+  pub kind : site_kinds (get_or bs 0 0) ≡ site_kind k
+
+-- where the code's reading of an outer field at the front of the bytes bs refuses it
+kind_refused : (c : Checked) (q : Result RecordKind Rule) (r : Rule) → (c ≡ Ok tt → q ≡ Err r → ⊥) → and_then c q ≡ Err r → c ≡ Err r
+unfolding and_then
+kind_refused (Ok tt) q r clash e = absurd (clash refl e)
+kind_refused (Err k) q r clash e = cc
+
+pub kind_broken : (bs : List ℕ) (r : Rule) → and_then (outer_rule site_tag bs) (kind_by (get_or bs 0 0)) ≡ Err r → outer_rule site_tag bs ≡ Err r
+unfolding site_tag
+kind_broken bs r = kind_refused (outer_rule site_tag bs) (kind_by (get_or bs 0 0)) r (λ c q. false≢true (rw q at (outer_passed site_tag bs c).tag))
+
+-- and where it gives the kind
+pub record KindRead (bs : List ℕ) (k : RecordKind) : Type 0 where
+  pub passed : outer_rule site_tag bs ≡ Ok tt
+  pub kind : site_kinds (get_or bs 0 0) ≡ site_kind k
+
+pub kind_read : (bs : List ℕ) (k : RecordKind) → and_then (outer_rule site_tag bs) (kind_by (get_or bs 0 0)) ≡ Ok k → KindRead bs k
+unfolding site_kinds
+kind_read bs k e =
+    let p = then_ok (outer_rule site_tag bs) (kind_by (get_or bs 0 0)) e in
+    record { passed = p.0; kind = rw p.1 }
+
+-- so the field lies within the bytes
+pub kind_fits : (bs : List ℕ) (k : RecordKind) → and_then (outer_rule site_tag bs) (kind_by (get_or bs 0 0)) ≡ Ok k → 3 + stated_len bs ≤ length bs
+kind_fits bs k e = outer_fits bs (kind_read bs k e).passed
+
 -- the bytes bs that are left at the offset
 module _ (f : List ℕ) (at : ℕ) (bs : List ℕ) (is : bs ≡ drop at f) where
-  pub record_broken : (k : Rule) → outer_rule site_tag bs ≡ Err k → record_at f at ≡ Err (record { rule = k; at = at })
+  pub record_broken : (r : Rule) → and_then (outer_rule site_tag bs) (kind_by (get_or bs 0 0)) ≡ Err r → record_at f at ≡ Err (record { rule = r; at = at })
   unfolding site_at record_in unless found_of
-  record_broken k e = rw (← is, e)
+  record_broken r e = rw (← is, kind_broken bs r e)
 
-  module _ (passed : outer_rule site_tag bs ≡ Ok tt) (end : ℕ) (is_end : end ≡ 3 + stated_len bs) where
-    pub record_refused : (r : Refusal) → fields_in site_kind (take (end - 3) (drop 3 bs)) (at + 3) ≡ Err r → record_at f at ≡ Err r
-    unfolding site_at record_in unless ending found_of
-    record_refused r e = let p = rw (is_end, add-sub_cancel_left) at e in rw (← is, passed, p)
+  module _ (k : RecordKind) (read : and_then (outer_rule site_tag bs) (kind_by (get_or bs 0 0)) ≡ Ok k) (end : ℕ) (is_end : end ≡ 3 + stated_len bs) where
+    here : KindRead bs k
+    here = kind_read bs k read
 
-    pub record_whole : (s : Site) → fields_in site_kind (take (end - 3) (drop 3 bs)) (at + 3) ≡ Ok s → record_at f at ≡ Ok (record { site = s; next = at + end })
+    pub record_refused : (r : Refusal) → fields_in (site_kind k) (take (end - 3) (drop 3 bs)) (at + 3) ≡ Err r → record_at f at ≡ Err r
     unfolding site_at record_in unless ending found_of
-    record_whole s e = let p = rw (is_end, add-sub_cancel_left) at e in rw (← is, passed, p, is_end, add_assoc)
+    record_refused r e = let p = rw (is_end, add-sub_cancel_left) at e in rw (← is, here.passed, here.kind, p)
+
+    pub record_whole : (s : Site) → fields_in (site_kind k) (take (end - 3) (drop 3 bs)) (at + 3) ≡ Ok s → record_at f at ≡ Ok (record { site = s; next = at + end })
+    unfolding site_at record_in unless ending found_of
+    record_whole s e = let p = rw (is_end, add-sub_cancel_left) at e in rw (← is, here.passed, here.kind, p, is_end, add_assoc)

@@ -5,7 +5,11 @@ use native.Mathlib.Omega.{arith}
 use lib.ListN.{length, get_or}
 use Rattle.site.specs.Ranges.{deposition_range}
 use Rattle.site.specs.declared.Site.{Site}
-use Rattle.site.specs.Values.{due}
+use Rattle.site.specs.declared.RecordKind.{RecordKind}
+use Rattle.site.specs.declared.RecordKind.TheVariants.{Tag52, Tag53}
+use Rattle.site.specs.Kinds.{due}
+use Rattle.site.proofs.Tags.{base_due}
+use mathlib.Core.Path.{◌≡◌, refl}
 use Rattle.field.specs.Kind.{Kind}
 use Rattle.field.specs.Field.{site_kind, value}
 use Rattle.field.specs.Clean.{AllBytes}
@@ -25,8 +29,14 @@ pub record PairRange (s : Site) : Type 0 where
   pub sulphur : s.sulphur ≤ deposition_range.most
   pub nitrogen : s.nitrogen ≤ deposition_range.most
 
+-- field 0F stands at one place in every kind
+pair_place : (k : RecordKind) → get_or (due k) 14 0 ≡ 15
+pair_place Tag52 = refl
+pair_place Tag53 = refl
+
 pub pair_range : (s : Site) → AllBytes (encode s) → PairRange s
 unfolding encode_as field_of value
 pair_range s b =
-    let pair = field_bytes site_kind s due 14 (omega arith) (λ i. b (suc (suc (suc i)))) in
+    let place : 14 < length (due s.kind) = omega (arith, base_due s.kind) in
+    let pair = rw (pair_place s.kind) at (field_bytes (site_kind s.kind) s (due s.kind) 14 place (λ i. b (suc (suc (suc i))))) in
     record { sulphur = omega (arith, pair 0); nitrogen = omega (arith, pair 2) }

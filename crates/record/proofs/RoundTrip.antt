@@ -34,7 +34,7 @@ pub read_written : (s : Site) → Sized s → site_rule s ≡ Ok tt → read_rec
 unfolding read_record site_at
 read_written s z e =
     let bs = encode s in
-    let some : 1 ≤ length bs = omega (arith, encode_length site_kind s) in
+    let some : 1 ≤ length bs = omega (arith, encode_length (site_kind s.kind) s) in
     let end : 0 + length bs ≡ length bs = omega arith in
     let q : record_in site_tag site_kinds bs 0 ≡ Ok (clean s, length bs) = rw (append-nil, end) at (site_read s z e [] 0) in
     ok_single (site_at bs) (length bs) some q

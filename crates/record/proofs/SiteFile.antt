@@ -4,7 +4,7 @@ use mathlib.Core.Path.{◌≡◌, sym, ap, ◌∙◌}
 use mathlib.Core.Logic.{◌⊎◌}
 use mathlib.Core.List.{List, map}
 use native.Mathlib.Omega.{arith}
-use lib.ListN.{length, take, drop}
+use lib.ListN.{length, get_or, take, drop}
 use Rattle.std.specs.Prelude.{Ok, Err, flat_map}
 use Rattle.site.specs.Ranges.{most_records}
 use Rattle.site.specs.declared.Site.{Site}
@@ -52,7 +52,7 @@ module _ (f : List ℕ) where
 
   -- and within the record that starts at an offset
   pub site_first_fault : (start : ℕ) {r : Refusal} → site_at f start ≡ Err r
-      → OuterBroken site_tag (drop start f) start r ⊎ InnerBroken site_tag site_kind (drop start f) start r
+      → OuterBroken site_tag (drop start f) start r ⊎ InnerBroken site_tag (site_kinds (get_or (drop start f) 0 0)) (drop start f) start r
   unfolding site_at
   site_first_fault start {r} e = first_in_record site_tag site_kinds (drop start f) start r e
 
@@ -86,7 +86,7 @@ pub sites_read : (ss : List Site) → All (λ s. Sized s × (site_rule s ≡ Ok 
     → contents (flat_map encode ss) ≡ Ok (map clean ss)
 unfolding contents site_at
 sites_read ss ok h l =
-    contents_read site_at encode clean (λ s. Sized s × (site_rule s ≡ Ok tt)) (λ s. omega (arith, encode_length site_kind s))
+    contents_read site_at encode clean (λ s. Sized s × (site_rule s ≡ Ok tt)) (λ s. omega (arith, encode_length (site_kind s.kind) s))
     (λ s p f at rest e. rw e (site_read s p.0 p.1 rest at)) most_records ss ok h l
 
 -- two different files never hold the same sites

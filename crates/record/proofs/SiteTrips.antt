@@ -2,24 +2,30 @@
 use mathlib.Core.Path.{◌≡◌, refl, ap, ◌∙◌}
 use mathlib.Core.List.{List, [], ◌∷◌}
 use Prim.Native.Nat.{ℕ}
+use lib.Dec.{ltb}
+use mathlib.Core.Bool.{true}
+use borrow.Author.Tests.{ltb-true, ne_eqb}
 use native.Mathlib.Omega.{arith}
 use lib.ListN.{take}
 use Rattle.std.specs.Prelude.{Ok}
 use Rattle.site.specs.declared.Site.{Site}
 use Rattle.site.specs.Bounds.{no_entry}
 use Rattle.site.specs.Check.{fields_rule, site_rule}
-use Rattle.field.specs.Field.{store, blank_site, value, site_kind}
+use Rattle.field.specs.Field.{store, blank_site, blank_of, value, site_kind}
 use Rattle.site.specs.Refusal.{and_then}
-use Rattle.site.specs.Values.{due, count_rule, value_rule}
+use Rattle.site.specs.declared.RecordKind.{RecordKind}
+use Rattle.site.specs.declared.RecordKind.TheVariants.{Tag52, Tag53}
+use Rattle.site.specs.Kinds.{due, usual_temperature, temperature_of}
+use Rattle.site.specs.Values.{count_rule, value_rule}
 use Rattle.site.proofs.Passing.{both_passed}
 use Rattle.record.specs.Fields.{fields_in, encode_fields}
 use Rattle.field.specs.Clean.{clean, Sized, AllBytes}
-use Rattle.field.proofs.All.{All, none, ◌▸◌, map-all, zip_all, all_at}
+use Rattle.field.proofs.All.{All, none, ◌▸◌, all_of, all_by, map-all, zip_all, all_at}
 use Rattle.field.proofs.TabulateLaws.{tabulate_pad}
 use Rattle.field.proofs.EntryLaws.{word_back, stand_back}
 use Rattle.field.proofs.FieldValueLaws.{name_long, bytes_long}
 use Rattle.field.proofs.TagLaws.{Tidy, AsRead, TagLaws, tags, quarter}
-use Rattle.record.proofs.Trips.{every, written_again_lem, store_all, read_again}
+use Rattle.record.proofs.Trips.{rises, through, every, written_again_lem, store_all, read_again}
 
 -- ---- a site passes exactly where its fields do
 
@@ -35,45 +41,94 @@ passed_fields (t ∷ ts) s e =
     let p = both_passed _ _ e in
     both_passed _ _ p.0 ▸ passed_fields ts s p.1
 
--- ---- a site that was read passes the check and is clean
+-- ---- what every field of a kind leaves
 
-module _ (s : Site) (bs : List ℕ) (at : ℕ) (e : fields_in site_kind bs at ≡ Ok s) where
-  as_read : All (λ t. AsRead t s) due
-  as_read = every site_kind AsRead due 0 refl (map-all (λ t (l : TagLaws t). l.read) tags) blank_site s bs at e
+-- the tags of a kind rise
+due_rises : (k : RecordKind) → rises 0 (due k) ≡ true
+due_rises Tag52 = refl
+due_rises Tag53 = refl
+
+module _ (k : RecordKind) (s : Site) (bs : List ℕ) (at : ℕ) (e : fields_in (site_kind k) bs at ≡ Ok s) where
+  -- the kind
+  pub walked_kind : s.kind ≡ k
+  unfolding store blank_of
+  walked_kind = through (site_kind k) (λ x. x.kind ≡ k) (due k) (all_of (λ u v x p. p) (due k)) (blank_of k) s bs at e refl
+
+  as_read : All (λ t. AsRead t s) (due k)
+  as_read = every (site_kind k) AsRead (due k) 0 (due_rises k) (map-all (λ t (l : TagLaws k t). l.read) (tags k)) (blank_of k) s bs at e
+
+  -- ---- a site that was read passes the check
 
   pub walked_passes : site_rule s ≡ Ok tt
   unfolding site_rule
-  walked_passes = fields_passed due s as_read
-
-  pub walked_clean : clean s ≡ s
-  unfolding Tidy clean
-  walked_clean = rw ((all_at as_read 0 0 (omega arith)).tidy, (all_at as_read 6 0 (omega arith)).tidy)
+  walked_passes = ap (λ j. fields_rule (due j) s) walked_kind ∙ fields_passed (due k) s as_read
 
   -- and is written as it was
-  pub encode_read : AllBytes bs → encode_fields site_kind due s ≡ bs
-  encode_read b = written_again_lem site_kind due 0 refl (map-all (λ t (l : TagLaws t). l.kept) tags) blank_site s bs at b e
+  pub encode_read : AllBytes bs → encode_fields (site_kind k) (due k) s ≡ bs
+  encode_read b = written_again_lem (site_kind k) (due k) 0 (due_rises k) (map-all (λ t (l : TagLaws k t). l.kept) (tags k)) (blank_of k) s bs at b e
+
+-- ---- a site that was read is clean
+
+-- no field of kind 52 is the temperature
+no_temperature : (u : ℕ) → ltb u 16 ≡ true → (v : List ℕ) (x : Site) → x.temperature ≡ usual_temperature → (store u v x).temperature ≡ usual_temperature
+unfolding store
+no_temperature u h v x p = let other : u ≡ 16 → ⊥ = λ i. omega (arith, ltb-true u 16 h) in rw (ne_eqb u 16 other) p
+
+walked_temperature : (k : RecordKind) (s : Site) (bs : List ℕ) (at : ℕ) → fields_in (site_kind k) bs at ≡ Ok s → temperature_of s ≡ s.temperature
+unfolding temperature_of blank_of blank_site
+walked_temperature Tag52 s bs at e =
+    let kept = through (site_kind Tag52) (λ x. x.temperature ≡ usual_temperature) (due Tag52) (map-all no_temperature (all_by (λ u. ltb u 16) (due Tag52) refl)) (blank_of Tag52) s bs at e refl in
+    rw (walked_kind Tag52 s bs at e, kept)
+walked_temperature Tag53 s bs at e = rw (walked_kind Tag53 s bs at e)
+
+-- of all the fields the name and the stand, which every kind has
+name_and_stand : {P : ℕ → Type 0} (k : RecordKind) → All P (due k) → P 1 × P 7
+name_and_stand Tag52 a = (all_at a 0 0 (omega arith), all_at a 6 0 (omega arith))
+name_and_stand Tag53 a = (all_at a 0 0 (omega arith), all_at a 6 0 (omega arith))
+
+module _ (k : RecordKind) (s : Site) (bs : List ℕ) (at : ℕ) (e : fields_in (site_kind k) bs at ≡ Ok s) where
+  pub walked_clean : clean s ≡ s
+  unfolding Tidy clean
+  walked_clean =
+      let p = name_and_stand k (as_read k s bs at e) in
+      rw (p.0.tidy, p.1.tidy, walked_temperature k s bs at e)
 
 -- ---- the fields that are written are read again
 
 module _ (s : Site) (z : Sized s) (e : site_rule s ≡ Ok tt) where
-  passed : All (λ t. (count_rule t s ≡ Ok tt) × (value_rule t s ≡ Ok tt)) due
+  passed : All (λ t. (count_rule t s ≡ Ok tt) × (value_rule t s ≡ Ok tt)) (due s.kind)
   unfolding site_rule
-  passed = passed_fields due s e
+  passed = passed_fields (due s.kind) s e
 
-  stored_is_clean : store_all site_kind due s blank_site ≡ clean s
-  unfolding store_all store value clean
-  stored_is_clean =
+  stored_is_clean : (k : RecordKind) → s.kind ≡ k → store_all (site_kind k) (due k) s (blank_of k) ≡ clean s
+  unfolding store_all store value clean blank_of blank_site temperature_of
+  stored_is_clean Tag52 is =
       let es = take s.stand.count s.stand.entries in
+      let p = name_and_stand s.kind passed in
       rw (
+        is,
         tabulate_pad 8 8 (take s.name.len s.name.bytes) 0 (omega arith),
-        name_long s z (all_at passed 0 0 (omega arith)).0,
+        name_long s z p.0.0,
         stand_back 4 es,
         tabulate_pad 4 4 es no_entry (omega arith),
-        bytes_long s z (all_at passed 6 0 (omega arith)).0,
+        bytes_long s z p.1.0,
+        quarter,
+      )
+      (simp word_back)
+  stored_is_clean Tag53 is =
+      let es = take s.stand.count s.stand.entries in
+      let p = name_and_stand s.kind passed in
+      rw (
+        is,
+        tabulate_pad 8 8 (take s.name.len s.name.bytes) 0 (omega arith),
+        name_long s z p.0.0,
+        stand_back 4 es,
+        tabulate_pad 4 4 es no_entry (omega arith),
+        bytes_long s z p.1.0,
         quarter,
       )
       (simp word_back)
 
-  pub read_encode : (at : ℕ) → fields_in site_kind (encode_fields site_kind due s) at ≡ Ok (clean s)
+  pub read_encode : (at : ℕ) → fields_in (site_kind s.kind) (encode_fields (site_kind s.kind) (due s.kind) s) at ≡ Ok (clean s)
   read_encode at =
-      read_again site_kind due s blank_site at (zip_all (λ t (l : TagLaws t) p. l.again s z p.0 p.1) tags passed) ∙ ap Ok stored_is_clean
+      read_again (site_kind s.kind) (due s.kind) s (blank_of s.kind) at (zip_all (λ t (l : TagLaws s.kind t) p. l.again s z p.0 p.1) (tags s.kind) passed) ∙ ap Ok (stored_is_clean s.kind refl)

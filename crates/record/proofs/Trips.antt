@@ -25,15 +25,26 @@ rises lo [] = true
 rises lo (t ∷ ts) = ltb lo t && rises t ts
 
 module _ {A : Type 0} (K : Kind A) where
-  -- ---- what later fields leave stays
+  -- ---- what the fields leave stays
+
+  pub through : (P : A → Type 0) (ts : List ℕ) → All (λ u. (v : List ℕ) (x : A) → P x → P (K.store u v x)) ts
+      → (x s : A) (bs : List ℕ) (at : ℕ) → walk_fields K ts x bs at ≡ Ok s → P x → P s
+  through P [] none x s bs at e p = subst P (walk_none K x s bs at e).0 p
+  through P (u ∷ ts) (keep ▸ more) x s bs at e p =
+      let q = walk_some K u ts x s bs at e in
+      through P ts more _ s _ _ q.more (keep _ x p)
+
+  -- those of later tags
+  later : (P : A → Type 0) (t : ℕ) → ((u : ℕ) (v : List ℕ) (x : A) → (u ≡ t → ⊥) → P x → P (K.store u v x))
+      → (ts : List ℕ) (lo : ℕ) → t ≤ lo → rises lo ts ≡ true → All (λ u. (v : List ℕ) (x : A) → P x → P (K.store u v x)) ts
+  later P t other [] lo h r = none
+  later P t other (u ∷ ts) lo h r =
+      let l = ltb-true lo u (and_l (ltb lo u) (rises u ts) r) in
+      (λ v x. other u v x (λ i. omega arith)) ▸ later P t other ts u (omega arith) (and_r (ltb lo u) (rises u ts) r)
 
   pub stays : (P : A → Type 0) (t : ℕ) → ((u : ℕ) (v : List ℕ) (x : A) → (u ≡ t → ⊥) → P x → P (K.store u v x))
       → (ts : List ℕ) (lo : ℕ) → t ≤ lo → rises lo ts ≡ true → (x s : A) (bs : List ℕ) (at : ℕ) → walk_fields K ts x bs at ≡ Ok s → P x → P s
-  stays P t other [] lo h r x s bs at e p = subst P (walk_none K x s bs at e).0 p
-  stays P t other (u ∷ ts) lo h r x s bs at e p =
-      let q = walk_some K u ts x s bs at e in
-      let l = ltb-true lo u (and_l (ltb lo u) (rises u ts) r) in
-      stays P t other ts u (omega arith) (and_r (ltb lo u) (rises u ts) r) _ s _ _ q.more (other u _ x (λ i. omega arith) p)
+  stays P t other ts lo h r = through P ts (later P t other ts lo h r)
 
   pub every : (P : ℕ → A → Type 0) (ts : List ℕ) (lo : ℕ) → rises lo ts ≡ true → All (λ t. Made K (P t) t) ts
       → (x s : A) (bs : List ℕ) (at : ℕ) → walk_fields K ts x bs at ≡ Ok s → All (λ t. P t s) ts

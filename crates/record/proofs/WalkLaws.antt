@@ -1,5 +1,5 @@
 -- Laws of the walk over the fields of a record, for every kind.
-use mathlib.Core.Path.{◌≡◌, refl}
+use mathlib.Core.Path.{◌≡◌, refl, ap, ◌∙◌}
 use mathlib.Core.Bool.{Bool, true, false}
 use mathlib.Core.List.{List, [], ◌∷◌, ◌++◌}
 use Prim.Native.Nat.{ℕ, ◌+◌, ◌-◌, ◌≤◌, ◌<◌}
@@ -17,15 +17,17 @@ use Rattle.site.specs.declared.Rule.{Rule}
 use Rattle.site.specs.declared.Rule.TheVariants.{InnerCut, InnerTag}
 use Rattle.site.specs.Refusal.{Checked, unless}
 use Rattle.site.specs.Choice.{pick}
-use Rattle.field.specs.Field.{taken, site_kind}
-use Rattle.field.proofs.TakenLaws.{taken_ok}
+use Rattle.field.specs.Field.{taken, blank_of, site_kind}
+use Rattle.field.proofs.TakenLaws.{taken_ok, same_rule}
 use Rattle.site.proofs.Passing.{pass_else, pass_then}
 use Rattle.record.specs.FieldParts.{stated_len, value_at, rest_at, field_of}
 use Rattle.field.specs.Kind.{Kind, field_rule}
-use Rattle.record.specs.Fields.{head_rule, walk_fields}
+use Rattle.record.specs.Fields.{head_rule, walk_fields, fields_in}
 use Rattle.record.proofs.FieldBytes.{stated, field_length, field_tag}
 use Rattle.site.proofs.ByCheckLaws.{unless_ok}
-use Rattle.record.proofs.Tags.{tags_from, tags_more, tags_none}
+use Rattle.site.proofs.Tags.{tags_from, tags_more, tags_none, due_tags}
+use Rattle.site.specs.declared.RecordKind.{RecordKind}
+use Rattle.site.specs.Kinds.{due}
 
 -- ---- the head of a field
 
@@ -119,50 +121,41 @@ module _ {A : Type 0} (K : Kind A) where
       let q = unless_ok (field_rule K t (value_at bs) x) at _ p.1 in
       record { head = head_passed t bs p.0; passed = q.0; more = q.1 }
 
--- ---- a step of the site's walk, at due tag k: the value as the code takes it
+-- ---- a step of the walk over a site of kind k, at the tag t of a loop that ends with `last`: the value as the code takes it
 
-module _ (ds : List ℕ) (k : ℕ) (inside : k < length ds) (s : Site) (bs : List ℕ) (at : ℕ) (ok : head_rule (get_or ds k 0) bs ≡ Ok tt)
-    (end : ℕ) (is_end : end ≡ 3 + stated_len bs) where
-  abbrev t : ℕ
-  t = get_or ds k 0
-
-  abbrev v : List ℕ
-  v = take (end - 3) (drop 3 bs)
-
-  value_is : v ≡ value_at bs
-  value_is = rw (is_end, add-sub_cancel_left)
-
-  pub site_value : (r : Rule) → field_rule site_kind t v s ≡ Err r → walk_fields site_kind (drop k ds) s bs at ≡ Err (record { rule = r; at = at })
-  site_value r e = walk_value site_kind ds k inside s bs at ok r (rw value_is at e)
-
-  pub site_next : field_rule site_kind t v s ≡ Ok tt
-      → walk_fields site_kind (drop k ds) s bs at ≡ walk_fields site_kind (drop (k + 1) ds) (taken t v s) (take (length bs - end) (drop end bs)) (at + end)
-  site_next e =
-      let passed = rw value_is at e in
-      let is : taken t v s ≡ site_kind.store t (value_at bs) s = rw value_is (taken_ok t (value_at bs) s passed) in
-      walk_next site_kind ds k inside s bs at ok passed (taken t v s) is end is_end
-
--- ---- the same at tag t of a loop over 01 to 0F
-
-module _ (s : Site) (bs : List ℕ) (at : ℕ) where
-  module _ (t : ℕ) (inside : t ≤ 15) where
+module _ (k : RecordKind) (last : ℕ) (s : Site) (bs : List ℕ) (at : ℕ) where
+  module _ (t : ℕ) (inside : t ≤ last) where
     abbrev ds : List ℕ
-    ds = t ∷ tags_from (t + 1)
+    ds = t ∷ tags_from last (t + 1)
 
-    pub tag_head : (r : Rule) → head_rule t bs ≡ Err r → walk_fields site_kind (tags_from t) s bs at ≡ Err (record { rule = r; at = at })
-    tag_head r e = rw (tags_more t inside) (walk_head site_kind ds 0 (omega arith) s bs at r e)
+    pub tag_head : (r : Rule) → head_rule t bs ≡ Err r → walk_fields (site_kind k) (tags_from last t) s bs at ≡ Err (record { rule = r; at = at })
+    tag_head r e = rw (tags_more last t inside) (walk_head (site_kind k) ds 0 (omega arith) s bs at r e)
 
     module _ (ok : head_rule t bs ≡ Ok tt) (end : ℕ) (is_end : end ≡ 3 + stated_len bs) where
-      pub tag_value : (r : Rule) → field_rule site_kind t (take (end - 3) (drop 3 bs)) s ≡ Err r
-          → walk_fields site_kind (tags_from t) s bs at ≡ Err (record { rule = r; at = at })
-      tag_value r e = rw (tags_more t inside) (site_value ds 0 (omega arith) s bs at ok end is_end r e)
+      abbrev v : List ℕ
+      v = take (end - 3) (drop 3 bs)
 
-      pub tag_next : field_rule site_kind t (take (end - 3) (drop 3 bs)) s ≡ Ok tt
-          → walk_fields site_kind (tags_from t) s bs at
-          ≡ walk_fields site_kind (tags_from (t + 1)) (taken t (take (end - 3) (drop 3 bs)) s) (take (length bs - end) (drop end bs)) (at + end)
-      tag_next e = rw (tags_more t inside) (site_next ds 0 (omega arith) s bs at ok end is_end e)
+      value_is : v ≡ value_at bs
+      value_is = rw (is_end, add-sub_cancel_left)
+
+      pub tag_value : (r : Rule) → field_rule (site_kind s.kind) t v s ≡ Err r
+          → walk_fields (site_kind k) (tags_from last t) s bs at ≡ Err (record { rule = r; at = at })
+      tag_value r e = rw (tags_more last t inside) (walk_value (site_kind k) ds 0 (omega arith) s bs at ok r (rw value_is at (same_rule t v s k s.kind ∙ e)))
+
+      pub tag_next : field_rule (site_kind s.kind) t v s ≡ Ok tt
+          → walk_fields (site_kind k) (tags_from last t) s bs at
+          ≡ walk_fields (site_kind k) (tags_from last (t + 1)) (taken t v s) (take (length bs - end) (drop end bs)) (at + end)
+      tag_next e =
+          let passed = rw value_is at (same_rule t v s k s.kind ∙ e) in
+          let is : taken t v s ≡ (site_kind k).store t (value_at bs) s = rw value_is (taken_ok t (value_at bs) s k passed) in
+          rw (tags_more last t inside) (walk_next (site_kind k) ds 0 (omega arith) s bs at ok passed (taken t v s) is end is_end)
 
   -- the end: no tag is due
-  pub tag_none : (t : ℕ) → 15 < t → walk_fields site_kind (tags_from t) s bs at ≡ pick (eqb (length bs) 0) (Ok s) (Err (record { rule = InnerTag; at = at }))
+  pub tag_none : (t : ℕ) → last < t → walk_fields (site_kind k) (tags_from last t) s bs at ≡ pick (eqb (length bs) 0) (Ok s) (Err (record { rule = InnerTag; at = at }))
   unfolding walk_fields
-  tag_none t past = rw (tags_none t past)
+  tag_none t past = rw (tags_none last t past)
+
+-- all the fields of the kind
+pub tag_first : (k : RecordKind) (bs : List ℕ) (at : ℕ)
+    → fields_in (site_kind k) bs at ≡ walk_fields (site_kind k) (tags_from (length (due k)) 1) (blank_of k) bs at
+tag_first k bs at = ap (λ ts. walk_fields (site_kind k) ts (blank_of k) bs at) (due_tags k)

@@ -1,5 +1,9 @@
 -- A site record of a file, and a file of at most one record.
-use Rattle.std.specs.Prelude.{ℕ, Bool, List, eqb, drop, length, Result, Ok, Err}
+use Rattle.std.specs.Prelude.{ℕ, Bool, true, false, List, drop, length, Result, Ok, Err}
+use Rattle.site.specs.declared.RecordKind.{RecordKind}
+use Rattle.site.specs.declared.RecordKind.TheVariants.{Tag52}
+use Rattle.site.specs.declared.Rule.{Rule}
+use Rattle.site.specs.Kinds.{kind_by}
 use Rattle.site.specs.declared.Site.{Site}
 use Rattle.site.specs.declared.Refusal.{Refusal}
 use Rattle.record.specs.declared.Found.{Found}
@@ -7,12 +11,21 @@ use Rattle.field.specs.Kind.{Kind}
 use Rattle.field.specs.Field.{site_kind}
 use Rattle.record.specs.Records.{record_in, single}
 
--- the outer tag 52
-abbrev pub site_tag : ℕ → Bool
-site_tag t = eqb t site_kind.tag
+-- an outer tag that may stand there: that of a kind
+abbrev of_kind : Result RecordKind Rule → Bool
+of_kind (Ok k) = true
+of_kind (Err r) = false
 
-abbrev pub site_kinds : ℕ → Kind Site
-site_kinds t = site_kind
+unfoldable pub site_tag : ℕ → Bool
+site_tag t = of_kind (kind_by t)
+
+-- the kind of the record, by its outer tag; for a tag of none it is not asked
+abbrev kind_or_52 : Result RecordKind Rule → RecordKind
+kind_or_52 (Ok k) = k
+kind_or_52 (Err r) = Tag52
+
+unfoldable pub site_kinds : ℕ → Kind Site
+site_kinds t = site_kind (kind_or_52 (kind_by t))
 
 -- the record of the file f that starts at offset `at`, and where the next one starts
 unfoldable pub site_at : List ℕ → ℕ → Result (Site × ℕ) Refusal

@@ -7,9 +7,9 @@ use Rattle.output.specs.Output.{output_rule}
 use Rattle.record.specs.Fields.{encode_as}
 use Rattle.field.specs.Field.{site_kind}
 
--- the record: an outer field with tag 52
+-- the record: an outer field with the tag of the site's kind
 abbrev pub encode : Site → List ℕ
-encode s = encode_as site_kind s
+encode s = encode_as (site_kind s.kind) s
 
 -- all that a write can break, 11 last
 abbrev pub write_rule : Site → ℕ → Checked

@@ -5,7 +5,7 @@ ghost use Rattle.record.specs.Fields.{head_rule, fields_in};
 
 use crate::bytes::stated_len;
 use field::{blank, take_field};
-use site::{Refusal, Rule, Site};
+use site::{RecordKind, Refusal, Rule, Site};
 
 // Rules 5 and 6 at the bytes that are left.
 #[tactic(auto, unfolding(crate::specs::Fields::head_rule))]
@@ -27,16 +27,16 @@ fn head_rule(rest: &[u8], tag: u8) -> Result<(), Rule>
     Ok(())
 }
 
-// The fields 01 to 0F of a record. The part starts at `base` of the lent input.
+// The fields of a record, those of its kind. The part starts at `base` of the lent input.
 #[tactic(auto, using(crate::proofs::WalkLaws::head_passed, crate::proofs::WalkLaws::tag_head, crate::proofs::WalkLaws::tag_value, crate::proofs::WalkLaws::tag_none))]
-pub fn read_fields(part: &[u8], base: usize) -> Result<Site, Refusal>
+pub fn read_fields(kind: RecordKind, part: &[u8], base: usize) -> Result<Site, Refusal>
     requires { base + length part.now < 2 ^ 64 }
-    ensures { result ≡ fields_in site_kind part.now base }
+    ensures { result ≡ fields_in (site_kind kind) part.now base }
 {
-    let mut site = blank();
+    let mut site = blank(kind);
     let mut rest = part;
     let mut at = base;
-    for tag in 1..=15 {
+    for tag in 1..kind.end() {
         head_rule(rest, tag).map_err(|rule| Refusal { rule, at })?;
         let end = 3 + stated_len(rest);
         take_field(&mut site, tag, &rest[3..end]).map_err(|rule| Refusal { rule, at })?;

@@ -1,5 +1,7 @@
 // A record of a file, and the file of at most one record.
-ghost use Rattle.std.specs.Prelude.{◌≡◌, ◌-◌, ◌≤◌, length, take, drop, IfOk};
+ghost use Rattle.std.specs.Prelude.{◌≡◌, ◌-◌, ◌≤◌, get_or, length, take, drop, IfOk};
+ghost use Rattle.site.specs.Kinds.{kind_by};
+ghost use Rattle.site.specs.Refusal.{and_then};
 ghost use Rattle.record.specs.Outer.{site_tag, site_at, record_at, read_record};
 ghost use Rattle.record.specs.File.{contents_by};
 ghost use Rattle.record.specs.Records.{outer_rule};
@@ -9,19 +11,17 @@ ghost use Rattle.record.specs.Writer.{WritesAgain};
 use crate::Found;
 use crate::bytes::stated_len;
 use crate::inner::read_fields;
-use site::{Refusal, Rule, Site};
+use site::{RecordKind, Refusal, Rule, Site};
 
-// Rules 2 and 3 at the bytes that are left.
-#[tactic(auto, unfolding(crate::specs::Records::outer_rule))]
-fn outer_rule(rest: &[u8]) -> Result<(), Rule>
-    ensures { result ≡ outer_rule site_tag rest.now }
+// Rules 2 and 3 at the bytes that are left, and the kind of the record there.
+#[tactic(auto, unfolding(crate::specs::Records::outer_rule, crate::specs::Outer::site_tag, site::specs::Refusal::and_then))]
+fn outer_kind(rest: &[u8]) -> Result<RecordKind, Rule>
+    ensures { result ≡ and_then (outer_rule site_tag rest.now) (kind_by (get_or rest.now 0 0)) }
 {
     if rest.len() < 3 {
         return Err(Rule::OuterCut);
     }
-    if rest[0] != 82 {
-        return Err(Rule::OuterTag);
-    }
+    let kind = RecordKind::try_from(rest[0])?;
     let n = stated_len(rest);
     if 255 < n {
         return Err(Rule::OuterCut);
@@ -29,7 +29,7 @@ fn outer_rule(rest: &[u8]) -> Result<(), Rule>
     if rest.len() - 3 < n {
         return Err(Rule::OuterCut);
     }
-    Ok(())
+    Ok(kind)
 }
 
 // The bytes from an offset on, none past the end.
@@ -41,7 +41,7 @@ fn bytes_from(file: &[u8], at: usize) -> &[u8]
 }
 
 // The record whose outer field starts at `at`. Where no byte is left there, that is an outer field under 3 bytes.
-#[tactic(auto, using(crate::proofs::OuterLaws::outer_fits))]
+#[tactic(auto, using(crate::proofs::OuterLaws::kind_fits))]
 pub fn read_at(file: &[u8], at: usize) -> Result<Found, Refusal>
     ensures answer { result ≡ record_at file.now at }
     ensures numbers { result_numbers result ≡ result_numbers (site_at file.now at) }
@@ -49,9 +49,9 @@ pub fn read_at(file: &[u8], at: usize) -> Result<Found, Refusal>
     ensures written_again { IfOk result (λ found. WritesAgain found.site (take (found.next - at) (drop at file.now))) }
 {
     let rest = bytes_from(file, at);
-    outer_rule(rest).map_err(|rule| Refusal { rule, at })?;
+    let kind = outer_kind(rest).map_err(|rule| Refusal { rule, at })?;
     let end = 3 + stated_len(rest);
-    let site = read_fields(&rest[3..end], at + 3)?;
+    let site = read_fields(kind, &rest[3..end], at + 3)?;
     let next = at + end;
     Ok(Found { site, next })
 }

@@ -1,6 +1,6 @@
 // Fields put into a lent buffer.
 ghost use Rattle.std.specs.Prelude.{[], ◌∷◌, ◌+◌, ◌/◌, ◌%◌, ◌≤◌, ◌<◌, length};
-ghost use Rattle.site.specs.Values.{due};
+ghost use Rattle.site.specs.Kinds.{due};
 ghost use Rattle.output.specs.Writing.{Wrote};
 ghost use Rattle.record.specs.FieldParts.{field_of};
 ghost use Rattle.field.specs.Field.{value, site_kind};
@@ -31,11 +31,11 @@ fn put_field(buf: &mut [u8], at: usize, site: Site, tag: u8) -> usize
 }
 
 pub fn put_fields(buf: &mut [u8], at: usize, site: Site) -> usize
-    requires { at + length (encode_fields site_kind due site) ≤ length buf.old }
-    ensures { Wrote buf.old at (encode_fields site_kind due site) buf.new result }
+    requires { at + length (encode_fields (site_kind site.kind) (due site.kind) site) ≤ length buf.old }
+    ensures { Wrote buf.old at (encode_fields (site_kind site.kind) (due site.kind) site) buf.new result }
 {
     let mut end = at;
-    for tag in 1..=15 {
+    for tag in 1..site.kind.end() {
         end = put_field(buf, end, site, tag);
     }
     end

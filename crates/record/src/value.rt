@@ -55,6 +55,7 @@ pub fn value_of(site: Site, tag: u8) -> ArrayVec<u8, 16>
             let [c, d] = site.nitrogen.to_be_bytes();
             of(&[a, b, c, d])
         }
+        16 => of(&[site.temperature]),
         // another tag has no bytes
         _ => of(&[]),
     }

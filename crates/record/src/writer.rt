@@ -16,11 +16,15 @@ pub fn write_record(site: Site, buf: &mut [u8]) -> Result<usize, Refusal>
     ensures read_again { IfOk result (λ n. read_record (take n buf.new) ≡ Ok (clean site)) }
 {
     check_site(site)?;
-    // 15 heads, 24 bytes of values of one length, the name and the entries
-    let body = 15 * 3 + 24 + usize::from(site.name.len) + 4 * usize::from(site.stand.count);
+    // 15 heads, 24 bytes of values of one length, the name and the entries; the fields after 0F have a head and one byte
+    let body = 15 * 3
+        + 24
+        + usize::from(site.name.len)
+        + 4 * usize::from(site.stand.count)
+        + 4 * (usize::from(site.kind.end()) - 16);
     if buf.len() < 3 + body {
         return Err(Rule::BufferShort.into());
     }
-    let start = put_head(buf, 0, 82, body);
+    let start = put_head(buf, 0, site.kind.tag(), body);
     Ok(put_fields(buf, start, site))
 }

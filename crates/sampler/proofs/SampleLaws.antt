@@ -1,13 +1,14 @@
 -- The site with another pair is the same site: it passes the same checks and has the same terms. From this follows all that the call promises.
 use Prim.Native.Nat.{ℕ, ◌≤◌}
 use mathlib.Core.Path.{◌≡◌, refl, sym, ap, ◌∙◌, subst}
-use mathlib.Core.List.{List, ◌∷◌}
+use mathlib.Core.List.{List, [], ◌∷◌}
 use mathlib.Core.Logic.{◌⊎◌, inl, inr}
 use lib.ListN.{length}
 use native.Mathlib.Omega.{arith}
 use Rattle.std.specs.Prelude.{Result, Ok, Err}
 use Rattle.site.specs.Check.{fields_rule, site_rule}
 use Rattle.site.specs.Refusal.{values_if, Checked, and_then, unless}
+use Rattle.site.specs.Kinds.{due, temperature_of}
 use Rattle.site.specs.Values.{item_count, count_rule, value_rule}
 use Rattle.site.specs.declared.Site.{Site}
 use Rattle.site.specs.declared.Refusal.{Refusal}
@@ -28,12 +29,17 @@ use Rattle.sampler.specs.declared.Sampled.{Sampled}
 use Rattle.sampler.proofs.FirstMonthLaws.{year_refused}
 
 module _ (s : Site) (p : Pair) where
+  fields_same : (ts : List ℕ) → fields_rule ts (with_pair s p) ≡ fields_rule ts s
+  unfolding with_pair fields_rule count_rule item_count value_rule
+  fields_same [] = refl
+  fields_same (t ∷ ts) = ap (and_then (and_then (count_rule t s) (value_rule t s))) (fields_same ts)
+
   pub pair_rule : site_rule (with_pair s p) ≡ site_rule s
-  unfolding with_pair site_rule fields_rule count_rule item_count value_rule
-  pair_rule = refl
+  unfolding with_pair site_rule
+  pair_rule = fields_same (due s.kind)
 
   pub pair_terms : terms_of (with_pair s p) ≡ terms_of s
-  unfolding with_pair
+  unfolding with_pair temperature_of
   pair_terms = terms_same (with_pair s p) s (record {
     parent = refl;
     clay = refl;
@@ -49,6 +55,7 @@ module _ (s : Site) (p : Pair) where
     gibbsite = refl;
     ceiling = refl;
     leachate = refl;
+    temperature = refl;
   })
 
   abbrev keyed_answer : Result Sampled Refusal

@@ -1,5 +1,5 @@
 -- A site that passes the check is within the bounds that the calculation leans on.
-use mathlib.Core.Path.{◌≡◌}
+use mathlib.Core.Path.{◌≡◌, refl}
 use mathlib.Core.Logic.{⊎_elim}
 use mathlib.Core.Bool.{true, ◌&&◌}
 use mathlib.Core.List.{List}
@@ -16,13 +16,16 @@ use Rattle.std.specs.Prelude.{Ok}
 use Rattle.std.specs.List.{list_all}
 use Rattle.site.specs.Bounds.{no_entry, EntryBounds, StandBounds, Bounds}
 use Rattle.site.specs.Check.{site_rule}
-use Rattle.site.specs.Ranges.{parent_range, depth_range, percolation_range, most_species, share_range, most_yield, immobilisation_range, available_range, base_deposition_range, ratio_range, gibbsite_range, ceiling_range, leachate_range}
-use Rattle.site.specs.Values.{due, count_rule, item_count, value_rule, stand_rule, entry_ranged, inside}
+use Rattle.site.specs.Ranges.{parent_range, depth_range, percolation_range, most_species, share_range, most_yield, immobilisation_range, available_range, base_deposition_range, ratio_range, gibbsite_range, ceiling_range, leachate_range, temperature_range}
+use Rattle.site.specs.declared.RecordKind.{RecordKind}
+use Rattle.site.specs.declared.RecordKind.TheVariants.{Tag52, Tag53}
+use Rattle.site.specs.Kinds.{due, temperature_of}
+use Rattle.site.specs.Values.{count_rule, item_count, value_rule, stand_rule, entry_ranged, inside}
 use Rattle.site.proofs.Tests.{le_or_lt, and_l, and_r}
 use Rattle.site.proofs.Passing.{pass_then, inside_both, between_passed}
 use Rattle.site.proofs.PartLaws.{test_at}
 use Rattle.site.proofs.LengthLaws.{count_parts}
-use Rattle.site.proofs.FieldLaws.{site_passed}
+use Rattle.site.proofs.FieldLaws.{due_passed, site_passed}
 
 pub entry_bounds : (e : Entry) → entry_ranged e ≡ true → EntryBounds e
 unfolding entry_ranged
@@ -59,21 +62,30 @@ stand_bounds s c v =
     }
 
 module _ (s : Site) (e : site_rule s ≡ Ok tt) where
-  value_at_lem : (k : ℕ) → k < 15 → value_rule (get_or due k 0) s ≡ Ok tt
-  value_at_lem k h = (site_passed s e k h).1
+  value_at_lem : (t : ℕ) → 1 ≤ t → t ≤ 15 → value_rule t s ≡ Ok tt
+  value_at_lem t some most = (site_passed s e t some most).1
+
+  -- the temperature that counts: the field's, or that of 8 °C
+  temperature_bound : (k : RecordKind) → s.kind ≡ k → temperature_of s ≤ temperature_range.most
+  unfolding value_rule temperature_of
+  temperature_bound Tag52 is = rw is (omega arith)
+  temperature_bound Tag53 is =
+      let due : 16 ≤ length (due s.kind) = rw is (omega arith) in
+      rw is (between_passed temperature_range s.temperature (due_passed s e 16 (omega arith) due).1).1
 
   pub bounds : Bounds s
   unfolding value_rule
   bounds = record {
-    parent = (between_passed parent_range s.parent (value_at_lem 1 (omega arith))).1;
-    depth = (between_passed depth_range s.depth (value_at_lem 3 (omega arith))).1;
-    percolation = (between_passed percolation_range s.percolation (value_at_lem 5 (omega arith))).1;
-    stand = stand_bounds s (site_passed s e 6 (omega arith)).0 (value_at_lem 6 (omega arith));
-    immobilisation = (between_passed immobilisation_range s.immobilisation (value_at_lem 7 (omega arith))).1;
-    available = (between_passed available_range s.available (value_at_lem 8 (omega arith))).1;
-    deposition = (between_passed base_deposition_range s.base_deposition (value_at_lem 9 (omega arith))).1;
-    ratio = (between_passed ratio_range s.ratio (value_at_lem 10 (omega arith))).0;
-    gibbsite = (between_passed gibbsite_range s.gibbsite (value_at_lem 11 (omega arith))).1;
-    ceiling = (between_passed ceiling_range s.ceiling (value_at_lem 12 (omega arith))).1;
-    leachate = (between_passed leachate_range s.leachate (value_at_lem 13 (omega arith))).1;
+    parent = (between_passed parent_range s.parent (value_at_lem 2 (omega arith) (omega arith))).1;
+    depth = (between_passed depth_range s.depth (value_at_lem 4 (omega arith) (omega arith))).1;
+    percolation = (between_passed percolation_range s.percolation (value_at_lem 6 (omega arith) (omega arith))).1;
+    stand = stand_bounds s (site_passed s e 7 (omega arith) (omega arith)).0 (value_at_lem 7 (omega arith) (omega arith));
+    immobilisation = (between_passed immobilisation_range s.immobilisation (value_at_lem 8 (omega arith) (omega arith))).1;
+    available = (between_passed available_range s.available (value_at_lem 9 (omega arith) (omega arith))).1;
+    deposition = (between_passed base_deposition_range s.base_deposition (value_at_lem 10 (omega arith) (omega arith))).1;
+    ratio = (between_passed ratio_range s.ratio (value_at_lem 11 (omega arith) (omega arith))).0;
+    gibbsite = (between_passed gibbsite_range s.gibbsite (value_at_lem 12 (omega arith) (omega arith))).1;
+    ceiling = (between_passed ceiling_range s.ceiling (value_at_lem 13 (omega arith) (omega arith))).1;
+    leachate = (between_passed leachate_range s.leachate (value_at_lem 14 (omega arith) (omega arith))).1;
+    temperature = temperature_bound s.kind refl;
   }

@@ -23,6 +23,11 @@ module _ {A : Type 0} where
   then_assoc (Ok tt) b c = refl
   then_assoc (Err r) b c = refl
 
+  pub then_ok : (c : Checked) (q : Result A Rule) {x : A} → and_then c q ≡ Ok x → (c ≡ Ok tt) × (q ≡ Ok x)
+  unfolding and_then
+  then_ok (Ok tt) q e = (refl, e)
+  then_ok (Err r) q e = cc
+
   pub unless_ok : (c : Checked) (at : ℕ) (q : Result A Refusal) {x : A} → unless c at q ≡ Ok x → (c ≡ Ok tt) × (q ≡ Ok x)
   unfolding unless
   unless_ok (Ok tt) at q e = (refl, e)

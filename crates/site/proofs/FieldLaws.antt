@@ -1,63 +1,67 @@
--- Laws of the check by tags: the field at place k of the tags due.
-use mathlib.Core.Path.{◌≡◌, refl}
+-- Laws of the check by tags.
+use mathlib.Core.Path.{◌≡◌, refl, ap}
 use mathlib.Core.Logic.{⊎_elim}
-use mathlib.Core.List.{List, [], ◌∷◌}
 use Prim.Native.Nat.{ℕ, zero, suc, ◌+◌, ◌-◌, ◌≤◌, ◌<◌}
 use native.Mathlib.Omega.{arith}
-use lib.Dec.{eqb}
-use lib.ListN.{length, get_or, get_or-eq_default, drop}
-use lib.Seq.{drop-cons}
-use borrow.Author.Tests.{eqb-true}
-use native.Mathlib.Numerals.{add-one}
-use Rattle.site.proofs.BelowLaws.{one_below}
+use lib.ListN.{length, get_or-eq_default}
 use Rattle.site.specs.declared.Site.{Site}
 use Rattle.site.specs.Refusal.{and_then}
 use Rattle.std.specs.Prelude.{Ok}
-use Rattle.site.specs.Values.{due, count_rule, value_rule}
+use Rattle.site.specs.Kinds.{due}
+use Rattle.site.specs.Values.{count_rule, value_rule}
+use Rattle.site.proofs.Tags.{tags_from, tags_more, tags_none, due_tags, base_due}
 use Rattle.site.specs.Check.{fields_rule, site_rule}
 use Rattle.site.proofs.Tests.{le_or_lt}
 use Rattle.site.proofs.Passing.{both_passed}
 
-field_passed : (ds : List ℕ) (k : ℕ) (s : Site) → k < length ds → fields_rule ds s ≡ Ok tt
-    → (count_rule (get_or ds k 0) s ≡ Ok tt) × (value_rule (get_or ds k 0) s ≡ Ok tt)
+-- the field t of those from i to the last
+field_passed : (last i t : ℕ) (n : ℕ) → n ≡ t - i → i ≤ t → t ≤ last → (s : Site) → fields_rule (tags_from last i) s ≡ Ok tt
+    → (count_rule t s ≡ Ok tt) × (value_rule t s ≡ Ok tt)
 unfolding fields_rule
-field_passed [] k s h e = absurd (omega arith)
-field_passed (t ∷ ts) zero s h e = both_passed _ _ (both_passed _ _ e).0
-field_passed (t ∷ ts) (suc k) s h e = field_passed ts k s (omega arith) (both_passed _ _ e).1
+field_passed last i t zero d h l s e =
+    let same : i ≡ t = omega arith in
+    let p = both_passed _ _ (rw (tags_more last i (omega arith)) at e) in
+    rw same at (both_passed _ _ p.0)
+field_passed last i t (suc n) d h l s e =
+    let p = both_passed _ _ (rw (tags_more last i (omega arith)) at e) in
+    field_passed last (i + 1) t n (omega arith) (omega arith) l s p.1
 
--- a site that passes, passes rules 7 to 10 in the field at place k
-pub site_passed : (s : Site) → site_rule s ≡ Ok tt → (k : ℕ) → k < 15
-    → (count_rule (get_or due k 0) s ≡ Ok tt) × (value_rule (get_or due k 0) s ≡ Ok tt)
+-- a site that passes, passes rules 7 to 10 in every field of its kind
+pub due_passed : (s : Site) → site_rule s ≡ Ok tt → (t : ℕ) → 1 ≤ t → t ≤ length (due s.kind)
+    → (count_rule t s ≡ Ok tt) × (value_rule t s ≡ Ok tt)
 unfolding site_rule
-site_passed s e k h = field_passed due k s h e
+due_passed s e t some most = field_passed (length (due s.kind)) 1 t (t - 1) refl some most s (rw (due_tags s.kind) at e)
 
--- no rule for a tag without a range
-pub value_none : (t : ℕ) (s : Site) → (t < 15 → t ≡ 0) → value_rule t s ≡ Ok tt
+-- so in each of 01 to 0F
+pub site_passed : (s : Site) → site_rule s ≡ Ok tt → (t : ℕ) → 1 ≤ t → t ≤ 15
+    → (count_rule t s ≡ Ok tt) × (value_rule t s ≡ Ok tt)
+site_passed s e t some most = due_passed s e t some (omega (arith, base_due s.kind))
+
+-- no rule for a tag that no kind has
+pub value_none : (t : ℕ) (s : Site) → (t < 17 → t ≡ 0) → value_rule t s ≡ Ok tt
 unfolding value_rule
 value_none t s h =
     ⊎_elim
-    (λ (past : 15 ≤ t). rw get_or-eq_default)
+    (λ (past : 17 ≤ t). rw get_or-eq_default)
     (λ below. rw (h below))
-    (le_or_lt 15 t)
+    (le_or_lt 17 t)
 
--- the tag at place k
-due_tag : (k : ℕ) → k < 15 → get_or due k 0 ≡ k + 1
-due_tag k h = eqb-true _ _ (one_below (λ i. eqb (get_or due i 0) (i + 1)) 15 refl k h)
-
--- the fields from place k on: the field there, then those after it
-pub fields_next : (k : ℕ) (s : Site) → k < 15
-    → fields_rule (drop k due) s ≡ and_then (and_then (count_rule (k + 1) s) (value_rule (k + 1) s)) (fields_rule (drop (k + 1) due) s)
+-- the fields from the tag t on: this one, then those after it
+pub fields_next : (last t : ℕ) (s : Site) → t ≤ last
+    → fields_rule (tags_from last t) s ≡ and_then (and_then (count_rule t s) (value_rule t s)) (fields_rule (tags_from last (t + 1)) s)
 unfolding fields_rule
-fields_next k s h = rw (drop-cons due k 0 h, due_tag k h, add-one)
+fields_next last t s h = rw (tags_more last t h)
 
-pub fields_passed : (t : ℕ) (s : Site) → 1 ≤ t → t ≤ 15 → and_then (count_rule t s) (value_rule t s) ≡ Ok tt
-    → fields_rule (drop (t - 1) due) s ≡ fields_rule (drop (t + 1 - 1) due) s
+-- all the fields
+pub fields_all : (s : Site) → site_rule s ≡ fields_rule (tags_from (length (due s.kind)) 1) s
+unfolding site_rule
+fields_all s = ap (λ ts. fields_rule ts s) (due_tags s.kind)
+
+pub fields_passed : (last t : ℕ) (s : Site) → t ≤ last → and_then (count_rule t s) (value_rule t s) ≡ Ok tt
+    → fields_rule (tags_from last t) s ≡ fields_rule (tags_from last (t + 1)) s
 unfolding and_then
-fields_passed t s one most e =
-    let place : t - 1 + 1 ≡ t = omega arith in
-    let after : t + 1 - 1 ≡ t = omega arith in
-    rw (fields_next (t - 1) s (omega arith), place, after, e)
+fields_passed last t s h e = rw (fields_next last t s h, e)
 
-pub fields_done : (t : ℕ) (s : Site) → t ≡ 16 → fields_rule (drop (t - 1) due) s ≡ Ok tt
+pub fields_done : (last t : ℕ) (s : Site) → last < t → fields_rule (tags_from last t) s ≡ Ok tt
 unfolding fields_rule
-fields_done t s e = rw e
+fields_done last t s h = rw (tags_none last t h)

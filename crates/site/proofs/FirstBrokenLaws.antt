@@ -8,7 +8,8 @@ use Rattle.site.specs.declared.Site.{Site}
 use Rattle.site.specs.declared.Rule.{Rule}
 use Rattle.site.specs.Refusal.{Checked, and_then}
 use Rattle.std.specs.Prelude.{Ok, Err}
-use Rattle.site.specs.Values.{due, count_rule, value_rule}
+use Rattle.site.specs.Kinds.{due}
+use Rattle.site.specs.Values.{count_rule, value_rule}
 use Rattle.site.specs.Check.{fields_rule, site_rule, FirstBroken}
 use Rattle.site.proofs.Passing.{both_passed}
 
@@ -36,6 +37,6 @@ first_broken (t ∷ ts) s r e = by_field (λ again. first_broken ts s r again) (
     by_field again (Err k) q e = record { before = []; tag = t; later = ts; order = refl; passed = λ k h. absurd (omega arith); broken = q ∙ e }
     by_field again (Ok tt) q e = later_broken t ts s r q (again e)
 
-pub site_first_broken : (s : Site) (r : Rule) → site_rule s ≡ Err r → FirstBroken due s r
+pub site_first_broken : (s : Site) (r : Rule) → site_rule s ≡ Err r → FirstBroken (due s.kind) s r
 unfolding site_rule
-site_first_broken s r e = first_broken due s r e
+site_first_broken s r e = first_broken (due s.kind) s r e

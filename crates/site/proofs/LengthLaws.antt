@@ -76,25 +76,25 @@ pub parts_counted : (t : ℕ) (s : Site) → 1 ≤ item_count t s → item_count
 unfolding count_rule
 parts_counted t s some most = rw (le-leb _ _ some, le-leb _ _ most)
 
--- a tag that is none of 1 to 15 has no items
-pub no_items_lem : (t : ℕ) → (t < 16 → t ≡ 0) → items_of t ≡ no_items
-no_items_lem t h = ⊎_elim (λ (past : 16 ≤ t). rw get_or-eq_default) (λ below. rw (h below)) (le_or_lt 16 t)
+-- a tag that is none of 1 to 16 has no items
+pub no_items_lem : (t : ℕ) → (t < 17 → t ≡ 0) → items_of t ≡ no_items
+no_items_lem t h = ⊎_elim (λ (past : 17 ≤ t). rw get_or-eq_default) (λ below. rw (h below)) (le_or_lt 17 t)
 
 -- so it has no permitted length
-no_tag_permitted : (t n : ℕ) → (t < 16 → t ≡ 0) → length_permitted t n ≡ true → ⊥
+no_tag_permitted : (t n : ℕ) → (t < 17 → t ≡ 0) → length_permitted t n ≡ true → ⊥
 no_tag_permitted t n h e =
     let p = permitted_parts t n e in
     let q : n ≤ 1 * 0 = rw (no_items_lem t h) at p.1 in
     omega (arith, p.0)
 
--- a length is permitted for the tags 1 to 15 alone
-pub permitted_tag : (t n : ℕ) → length_permitted t n ≡ true → (1 ≤ t) × (t ≤ 15)
+-- a length is permitted for the tags 1 to 16 alone
+pub permitted_tag : (t n : ℕ) → length_permitted t n ≡ true → (1 ≤ t) × (t ≤ 16)
 permitted_tag t n e =
     ⊎_elim
-    (λ (past : 16 ≤ t). absurd (no_tag_permitted t n (λ h. absurd (omega arith)) e))
-    (λ (below : t < 16).
+    (λ (past : 17 ≤ t). absurd (no_tag_permitted t n (λ h. absurd (omega arith)) e))
+    (λ (below : t < 17).
     ⊎_elim
     (λ (some : 1 ≤ t). (some, omega arith))
     (λ (none : t < 1). absurd (no_tag_permitted t n (λ h. omega arith) e))
     (le_or_lt 1 t))
-    (le_or_lt 16 t)
+    (le_or_lt 17 t)

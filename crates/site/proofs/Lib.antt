@@ -7,6 +7,7 @@ pub mod PartLaws
 pub mod MapLaws
 pub mod StandLaws
 pub mod LengthLaws
+pub mod Tags
 pub mod FieldLaws
 pub mod NumberLaws
 pub mod BoundsLaw

@@ -1,10 +1,12 @@
 -- Site A1 of document 01, "Record, file, listing".
 use Rattle.std.specs.Prelude.{[], ◌∷◌}
 use Rattle.site.specs.declared.Site.{Site}
+use Rattle.site.specs.declared.RecordKind.TheVariants.{Tag52}
 use Rattle.site.specs.Bounds.{no_entry}
 
 abbrev pub a1 : Site
 a1 = record {
+  kind = Tag52;
   name = record { bytes = 65 ∷ 49 ∷ 0 ∷ 0 ∷ 0 ∷ 0 ∷ 0 ∷ 0 ∷ []; len = 2 };
   parent = 1;
   clay = 10;
@@ -22,4 +24,5 @@ a1 = record {
   leachate = 20;
   sulphur = 500;
   nitrogen = 700;
+  temperature = 13;
 }

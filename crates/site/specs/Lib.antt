@@ -1,5 +1,6 @@
 pub mod Choice
 pub mod Refusal
+pub mod Kinds
 pub mod Ranges
 pub mod Values
 pub mod Check

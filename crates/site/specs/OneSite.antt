@@ -1,6 +1,8 @@
--- Two pairs are at one site when all the site values that go with them, but name and pair, are equal.
+-- Two pairs are at one site when all the site values that go with them, but name and pair, are equal. The kind of the record is none of these values: the
+-- temperature is the one that counts.
 use Rattle.std.specs.Prelude.{◌≡◌, take}
 use Rattle.site.specs.declared.Site.{Site}
+use Rattle.site.specs.Kinds.{temperature_of}
 
 pub record OneSite (s t : Site) : Type 0 where
   pub parent : s.parent ≡ t.parent
@@ -17,3 +19,4 @@ pub record OneSite (s t : Site) : Type 0 where
   pub gibbsite : s.gibbsite ≡ t.gibbsite
   pub ceiling : s.ceiling ≡ t.ceiling
   pub leachate : s.leachate ≡ t.leachate
+  pub temperature : temperature_of s ≡ temperature_of t

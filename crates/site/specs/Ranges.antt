@@ -74,6 +74,10 @@ leachate_range = record { least = 1; most = 1000 }
 abbrev pub deposition_range : Range
 deposition_range = record { least = 0; most = 65535 }
 
+-- 10 temperature (document 02, E5): −5 to 20 °C
+abbrev pub temperature_range : Range
+temperature_range = record { least = 0; most = 25 }
+
 -- "Record, file, listing": a file is 1 to 500 records
 abbrev pub most_records : ℕ
 most_records = 500

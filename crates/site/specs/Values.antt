@@ -1,18 +1,14 @@
--- Document 01, "The site's values": what rules 7 to 10 ask of each field, by its tag.
+-- Document 01, "The site's values", and document 02: what rules 7 to 10 ask of each field, by its tag.
 use Rattle.std.specs.List.{list_all}
 use Rattle.std.specs.Prelude.{ℕ, ◌+◌, ◌*◌, ◌%◌, Bool, true, ◌&&◌, ◌||◌, List, [], ◌∷◌, leb, eqb, get_or, take, Ok, Err}
 use Rattle.site.specs.Choice.{pick}
 use Rattle.site.specs.declared.ranges.Range.{Range}
-use Rattle.site.specs.Ranges.{most_name, parent_range, most_texture, depth_range, drainage_range, percolation_range, most_entries, most_species, share_range, most_yield, share_sum, immobilisation_range, available_range, base_deposition_range, ratio_range, gibbsite_range, ceiling_range, leachate_range}
+use Rattle.site.specs.Ranges.{most_name, parent_range, most_texture, depth_range, drainage_range, percolation_range, most_entries, most_species, share_range, most_yield, share_sum, immobilisation_range, available_range, base_deposition_range, ratio_range, gibbsite_range, ceiling_range, leachate_range, temperature_range}
 use Rattle.site.specs.declared.Site.{Site}
 use Rattle.site.specs.declared.Entry.{Entry}
 use Rattle.site.specs.declared.length.Items.{Items}
 use Rattle.site.specs.declared.Rule.TheVariants.{BadLength, OutOfRange, NotRising, SharesNotWhole}
 use Rattle.site.specs.Refusal.{Checked}
-
--- the tags 01 to 0F
-abbrev pub due : List ℕ
-due = 1 ∷ 2 ∷ 3 ∷ 4 ∷ 5 ∷ 6 ∷ 7 ∷ 8 ∷ 9 ∷ 10 ∷ 11 ∷ 12 ∷ 13 ∷ 14 ∷ 15 ∷ []
 
 -- a field holds at least one and at most n items of w bytes each: the name its bytes, the stand its entries, every other field one value
 abbrev items : ℕ → ℕ → Items
@@ -21,7 +17,7 @@ items w n = record { width = w; most = n }
 abbrev pub no_items : Items
 no_items = items 1 0
 
--- the column "Bytes" of document 01, by tag from 0
+-- the column "Bytes" of document 01, then document 02's, by tag from 0
 abbrev pub field_items : List Items
 field_items =
     no_items
@@ -40,6 +36,7 @@ field_items =
     ∷ items 2 1  -- 0D ceiling
     ∷ items 2 1  -- 0E leachate
     ∷ items 4 1  -- 0F deposition
+    ∷ items 1 1  -- 10 temperature
     ∷ []
 
 abbrev pub items_of : ℕ → Items
@@ -90,7 +87,7 @@ order_rule rising whole = pick rising (pick whole (Ok tt) (Err SharesNotWhole)) 
 unfoldable pub stand_rule : List Entry → Checked
 stand_rule es = pick (list_all entry_ranged es) (order_rule (rising_from 0 es) (eqb (shares_of es) share_sum)) (Err OutOfRange)
 
--- rules 8, 9 and 10 of each field, by tag from 0; the deposition's range is all that two bytes hold, so it has no rule
+-- rules 8, 9 and 10 of each field, by tag from 0
 abbrev pub value_rules : Site → List Checked
 value_rules s =
     Ok tt
@@ -108,6 +105,8 @@ value_rules s =
     ∷ between gibbsite_range s.gibbsite  -- 0C
     ∷ between ceiling_range s.ceiling  -- 0D
     ∷ between leachate_range s.leachate  -- 0E
+    ∷ Ok tt  -- 0F: the deposition's range is all that two bytes hold
+    ∷ between temperature_range s.temperature  -- 10
     ∷ []
 
 unfoldable pub value_rule : ℕ → Site → Checked

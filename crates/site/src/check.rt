@@ -1,4 +1,4 @@
-// The check of a site value: rules 7 to 10 in tag order.
+// The check of a site value: rules 7 to 10 in the order of its kind's tags.
 ghost use Rattle.std.specs.Prelude.{◌≡◌};
 ghost use Rattle.site.specs.Check.{site_rule};
 ghost use Rattle.site.specs.Refusal.{and_then, checked_number, Numbered};
@@ -21,7 +21,7 @@ pub fn check_site(site: Site) -> Result<(), Rule>
     ensures answer { result ≡ site_rule site }
     ensures number { Numbered (site_rule site) (checked_number result) }
 {
-    for tag in 1..=15 {
+    for tag in 1..site.kind.end() {
         check_field(&site, tag)?;
     }
     Ok(())

@@ -32,6 +32,7 @@ fn items_of(tag: u8) -> Items
         13 => Items { width: 2, most: 1 },
         14 => Items { width: 2, most: 1 },
         15 => Items { width: 4, most: 1 },
+        16 => Items { width: 1, most: 1 },
         _ => Items { width: 1, most: 0 },
     }
 }

@@ -3,6 +3,7 @@
 
 mod bytes;
 mod check;
+mod kinds;
 mod length;
 mod names;
 mod ranges;
@@ -15,7 +16,7 @@ pub use check::check_site;
 pub use length::length_permitted;
 pub use ranges::{
     AVAILABLE, BASE_DEPOSITION, CEILING, DEPTH, DRAINAGE, GIBBSITE, IMMOBILISATION, LEACHATE,
-    PARENT, PERCOLATION, RATIO, Range, texture_rule,
+    PARENT, PERCOLATION, RATIO, Range, TEMPERATURE, texture_rule,
 };
 pub use value::value_rule;
 
@@ -42,9 +43,18 @@ pub struct Stand {
     pub count: u8,
 }
 
-// The values of document 01, "The site's values", raw: every bad site can be held, and is refused by the check.
+// The kinds of record, each by its outer tag. A site holds no other.
+#[derive(Clone, Copy, Debug, PartialEq, Eq)]
+pub enum RecordKind {
+    Tag52 = 0x52,
+    Tag53 = 0x53,
+}
+
+// The values of document 01, "The site's values", and of document 02, raw: every bad site can be held, and is refused by the check.
+// What the site's kind lacks is no part of the site: the temperature, a byte that stands for −5 °C and up, is none of kind 52.
 #[derive(Clone, Copy)]
 pub struct Site {
+    pub kind: RecordKind,
     pub name: Name,
     pub parent: u8,
     pub clay: u8,
@@ -62,6 +72,7 @@ pub struct Site {
     pub leachate: u16,
     pub sulphur: u16,
     pub nitrogen: u16,
+    pub temperature: u8,
 }
 
 // The refusals by number: 1 to 11 of document 01, "Where each check stands", then those of document 02.

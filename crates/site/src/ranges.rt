@@ -1,4 +1,4 @@
-// Rule 8 for the values that are numbers: document 01's ranges.
+// Rule 8 for the values that are numbers: the ranges of documents 01 and 02.
 ghost use Rattle.std.specs.Prelude.{◌≡◌, ◌+◌, leb};
 ghost use Rattle.site.specs.Ranges.{most_texture};
 ghost use Rattle.site.specs.Values.{ranged, between};
@@ -76,6 +76,8 @@ pub const LEACHATE: Range = Range {
     least: 1,
     most: 1000,
 };
+
+pub const TEMPERATURE: Range = Range { least: 0, most: 25 };
 
 // Clay and sand have no range of their own, but their sum.
 pub fn texture_rule(clay: u8, sand: u8) -> Result<(), Rule>

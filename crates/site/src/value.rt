@@ -4,7 +4,7 @@ ghost use Rattle.site.specs.Values.{value_rule};
 
 use crate::ranges::{
     AVAILABLE, BASE_DEPOSITION, CEILING, DEPTH, DRAINAGE, GIBBSITE, IMMOBILISATION, LEACHATE,
-    PARENT, PERCOLATION, RATIO, texture_rule,
+    PARENT, PERCOLATION, RATIO, TEMPERATURE, texture_rule,
 };
 use crate::{Rule, Site};
 
@@ -27,6 +27,9 @@ pub fn value_rule(site: &Site, tag: u8) -> Result<(), Rule>
         12 => GIBBSITE.check(site.gibbsite),
         13 => CEILING.check(site.ceiling),
         14 => LEACHATE.check(site.leachate),
+        // the deposition's range is all that two bytes hold
+        15 => Ok(()),
+        16 => TEMPERATURE.check(u16::from(site.temperature)),
         _ => Ok(()),
     }
 }

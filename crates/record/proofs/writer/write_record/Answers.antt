@@ -25,7 +25,7 @@ returns-then-buf-body c =
 pub put_fields-requires : goal.put_fields-requires
 put_fields-requires c =
     let z = sized c.args.site (search rules) (search (rules, unmapped)) in
-    omega (arith, encode_length site_kind c.args.site, record_length _ z (sym c.in_ok-check_site.ensures.answer), c.put_head-start.ensures.next, c.put_head-start.auto.buf)
+    omega (arith, encode_length (site_kind c.args.site.kind) c.args.site, record_length _ z (sym c.in_ok-check_site.ensures.answer), c.put_head-start.ensures.next, c.put_head-start.auto.buf)
 
 pub returns : goal.returns
 returns c =
@@ -33,4 +33,4 @@ returns c =
     let passed = sym c.in_ok-check_site.ensures.answer in
     let long = record_length _ z passed in
     write_whole c.args.site z _ passed (omega (arith, long))
-    (record_wrote c.args.site (omega (arith, long, encode_length site_kind c.args.site)) c.put_head-start.ensures c.put_fields.ensures)
+    (record_wrote c.args.site (omega (arith, long, encode_length (site_kind c.args.site.kind) c.args.site)) (rw c.tag.ensures at c.put_head-start.ensures) c.put_fields.ensures)

@@ -1,7 +1,8 @@
-use Rattle.std.proofs.Common.{◌≡◌, ◌≤◌, ◌-◌, drop}
+use Rattle.std.proofs.Common.{◌≡◌, length}
 use Rattle.site.specs.Check.{fields_rule, site_rule}
-use Rattle.site.specs.Values.{due}
+use Rattle.site.specs.Kinds.{due}
+use Rattle.site.proofs.Tags.{tags_from}
 use Rattle.site.proofs.check.check_site.Given as goal
 
 abbrev pub invariant-loop-tag : goal.invariant-loop-tag
-invariant-loop-tag l = (1 ≤ l.tag) × (l.tag ≤ 16) × (site_rule l.site ≡ fields_rule (drop (l.tag - 1) due) l.site)
+invariant-loop-tag l = site_rule l.site ≡ fields_rule (tags_from (length (due l.site.kind)) l.tag) l.site

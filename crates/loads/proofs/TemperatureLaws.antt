@@ -1,0 +1,55 @@
+-- The table of t has its rule, and what that says of each entry.
+use Prim.Native.Nat.{ℕ, zero, suc, ◌+◌, ◌*◌, ◌/◌, ◌-◌, ◌≤◌, ◌<◌}
+use mathlib.Core.Path.{◌≡◌, refl, sym, ap, ◌∙◌}
+use mathlib.Core.List.{List, [], ◌∷◌, map}
+use native.Mathlib.Omega.{arith}
+use lib.IntN.{ℤ, pos}
+use lib.Dec.{leb}
+use lib.ListN.{get_or}
+use borrow.Author.Tests.{leb-true}
+use Rattle.std.specs.List.{range_with_len}
+use Rattle.site.specs.Ranges.{temperature_range}
+use Rattle.site.specs.Bounds.{Bounds}
+use Rattle.site.specs.declared.Site.{Site}
+use Rattle.site.specs.declared.RecordKind.TheVariants.{Tag52}
+use Rattle.site.specs.Kinds.{temperature_of}
+use Rattle.site.proofs.BelowLaws.{one_below}
+use Rattle.loads.specs.MostTerms.{most_factor}
+use Rattle.loads.specs.Fractions.{power, factorial}
+use Rattle.loads.specs.Temperature.{series, per_mille, factors, factor_by, temperature_factor}
+
+-- each of the 26 entries is the whole number nearest to its sum
+pub factors_are : map per_mille (range_with_len 0 26) ≡ map pos factors
+unfolding per_mille series power factorial
+factors_are = refl
+
+module _ {A B : Type 0} (f : ℕ → B) (g : A → B) (d : A) where
+  from : (i n : ℕ) (xs : List A) → map f (range_with_len i n) ≡ map g xs → (k : ℕ) → k < n → f (i + k) ≡ g (get_or xs k d)
+  from i zero xs e k h = absurd (omega arith)
+  from i (suc n) [] e k h = let z : ◌≡◌ {A = ℕ} 0 1 = cc in absurd (omega arith)
+  from i (suc n) (x ∷ xs) e zero h = let s : i + zero ≡ i = omega arith in rw s cc
+  from i (suc n) (x ∷ xs) e (suc k) h =
+      let s : i + suc k ≡ i + 1 + k = omega arith in
+      let t : map f (range_with_len (i + 1) n) ≡ map g xs = cc in
+      rw s (from (i + 1) n xs t k (omega arith))
+
+pub factor_is : (byte : ℕ) → byte ≤ temperature_range.most → per_mille byte ≡ pos (factor_by byte)
+factor_is byte h = let e : 0 + byte ≡ byte = omega arith in rw e at (from per_mille pos 0 0 26 factors factors_are byte (omega arith))
+
+pub factor_le : (byte : ℕ) → byte ≤ temperature_range.most → factor_by byte ≤ most_factor
+factor_le byte h = leb-true _ _ (one_below (λ b. leb (factor_by b) most_factor) 26 refl byte (omega arith))
+
+module _ (s : Site) where
+  -- t of a site that passes is the rule's at its temperature
+  pub site_factor : Bounds s → per_mille (temperature_of s) ≡ pos (temperature_factor s)
+  unfolding temperature_factor
+  site_factor b = factor_is (temperature_of s) b.temperature
+
+  pub site_factor_le : Bounds s → temperature_factor s ≤ most_factor
+  unfolding temperature_factor
+  site_factor_le b = factor_le (temperature_of s) b.temperature
+
+  -- kind 52 keeps its meaning
+  pub factor_52 : s.kind ≡ Tag52 → temperature_factor s ≡ 1000
+  unfolding temperature_factor temperature_of
+  factor_52 e = rw e

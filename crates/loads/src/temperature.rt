@@ -1,0 +1,21 @@
+// t, by which weathering depends on temperature.
+ghost use Rattle.std.specs.Prelude.{◌≡◌, ◌≤◌};
+ghost use Rattle.loads.specs.MostTerms.{most_factor};
+ghost use Rattle.loads.specs.Temperature.{temperature_factor};
+
+use crate::valid::ValidSite;
+
+// t in per mille, by the temperature byte 0 to 25.
+const FACTORS: [u16; 26] = [
+    537, 565, 593, 623, 654, 687, 721, 756, 793, 831, 871, 912, 955, 1000, 1046, 1095, 1145, 1197,
+    1251, 1307, 1365, 1426, 1488, 1553, 1620, 1690,
+];
+
+impl ValidSite {
+    // t
+    pub fn temperature_factor(self) -> u64
+        ensures { (result ≡ temperature_factor self.site) × (result ≤ most_factor) }
+    {
+        u64::from(FACTORS[usize::from(self.site.temperature())])
+    }
+}

@@ -1,0 +1,34 @@
+-- The kinds of record: the outer tag of each, the fields it has, and what counts at a site whose kind lacks one.
+use Rattle.std.specs.Prelude.{ℕ, List, [], ◌∷◌, eqb, Result, Ok, Err}
+use Rattle.site.specs.Choice.{pick}
+use Rattle.site.specs.declared.RecordKind.{RecordKind}
+use Rattle.site.specs.declared.RecordKind.TheVariants.{Tag52, Tag53}
+use Rattle.site.specs.declared.Site.{Site}
+use Rattle.site.specs.declared.Rule.{Rule}
+use Rattle.site.specs.declared.Rule.TheVariants.{OuterTag}
+
+-- the outer tag: 52 and 53, hexadecimal
+abbrev pub kind_tag : RecordKind → ℕ
+kind_tag Tag52 = 82
+kind_tag Tag53 = 83
+
+-- the kind of an outer tag, and rule 3 for another tag
+abbrev pub kind_by : ℕ → Result RecordKind Rule
+kind_by t = pick (eqb t 82) (Ok Tag52) (pick (eqb t 83) (Ok Tag53) (Err OuterTag))
+
+-- the tags of the fields, in their order: 01 to 0F, in kind 53 then 10
+abbrev pub due : RecordKind → List ℕ
+due Tag52 = 1 ∷ 2 ∷ 3 ∷ 4 ∷ 5 ∷ 6 ∷ 7 ∷ 8 ∷ 9 ∷ 10 ∷ 11 ∷ 12 ∷ 13 ∷ 14 ∷ 15 ∷ []
+due Tag53 = 1 ∷ 2 ∷ 3 ∷ 4 ∷ 5 ∷ 6 ∷ 7 ∷ 8 ∷ 9 ∷ 10 ∷ 11 ∷ 12 ∷ 13 ∷ 14 ∷ 15 ∷ 16 ∷ []
+
+-- the temperature byte of 8 °C, which stands for the field where a kind has none
+abbrev pub usual_temperature : ℕ
+usual_temperature = 13
+
+-- the temperature byte that counts at a site: for kind 52 it is no part of the site
+abbrev temperature_in : RecordKind → ℕ → ℕ
+temperature_in Tag52 byte = usual_temperature
+temperature_in Tag53 byte = byte
+
+unfoldable pub temperature_of : Site → ℕ
+temperature_of s = temperature_in s.kind s.temperature

@@ -1,0 +1,52 @@
+// What the kind of a record says: its outer tag, its fields, and what stands for those it lacks.
+ghost use Rattle.std.specs.Prelude.{◌≡◌, ◌+◌, length};
+ghost use Rattle.site.specs.Kinds.{kind_tag, kind_by, due, temperature_of};
+
+use crate::{RecordKind, Rule, Site};
+
+impl RecordKind {
+    pub fn tag(self) -> u8
+        ensures { result ≡ kind_tag self }
+    {
+        // the number of its case, which a match would only write out
+        self as u8
+    }
+
+    // One past the last of its fields, whose tags rise from 01 without a gap.
+    pub fn end(self) -> u8
+        ensures { result ≡ length (due self) + 1 }
+    {
+        match self {
+            RecordKind::Tag52 => 16,
+            RecordKind::Tag53 => 17,
+        }
+    }
+}
+
+// The kind of an outer tag, or rule 3.
+impl TryFrom<u8> for RecordKind {
+    type Error = Rule;
+
+    ghost try_from_gives = { λ tag r. r ≡ kind_by tag };
+
+    fn try_from(tag: u8) -> Result<RecordKind, Rule> {
+        match tag {
+            0x52 => Ok(RecordKind::Tag52),
+            0x53 => Ok(RecordKind::Tag53),
+            _ => Err(Rule::OuterTag),
+        }
+    }
+}
+
+impl Site {
+    // The temperature byte of the site's record, and that of 8 °C where its kind has none.
+    #[tactic(auto, unfolding(crate::specs::Kinds::temperature_of))]
+    pub fn temperature(self) -> u8
+        ensures { result ≡ temperature_of self }
+    {
+        match self.kind {
+            RecordKind::Tag52 => 13,
+            RecordKind::Tag53 => self.temperature,
+        }
+    }
+}
