@@ -1,9 +1,10 @@
 -- The table of t has its rule, and what that says of each entry.
-use Prim.Native.Nat.{ℕ, zero, suc, ◌+◌, ◌*◌, ◌/◌, ◌-◌, ◌≤◌, ◌<◌}
-use mathlib.Core.Path.{◌≡◌, refl, sym, ap, ◌∙◌}
+use Prim.Native.Nat.{ℕ, zero, suc, ◌+◌, ◌*◌, ◌/◌, ◌≤◌, ◌<◌}
+use mathlib.Core.Path.{◌≡◌, refl, sym}
 use mathlib.Core.List.{List, [], ◌∷◌, map}
 use native.Mathlib.Omega.{arith}
-use lib.IntN.{ℤ, pos}
+use native.Mathlib.Nat.{le-div_iff_mul-le, div-lt_iff_lt-mul, le_of_eq, lt-suc_self, suc-mul, mul_assoc}
+use lib.IntN.{pos}
 use lib.Dec.{leb}
 use lib.ListN.{get_or}
 use borrow.Author.Tests.{leb-true}
@@ -15,13 +16,23 @@ use Rattle.site.specs.declared.RecordKind.TheVariants.{Tag52}
 use Rattle.site.specs.Kinds.{temperature_of}
 use Rattle.site.proofs.BelowLaws.{one_below}
 use Rattle.loads.specs.MostTerms.{most_factor}
-use Rattle.loads.specs.Fractions.{power, factorial}
+use Rattle.loads.specs.Fractions.{◌over◌, power, factorial, nearest}
 use Rattle.loads.specs.Temperature.{series, per_mille, factors, factor_by, temperature_factor}
 
 -- each of the 26 entries is the whole number nearest to its sum
 pub factors_are : map per_mille (range_with_len 0 26) ≡ map pos factors
 unfolding per_mille series power factorial
 factors_are = refl
+
+-- what it says, of a fraction above 0: t − 1/2 ≤ a / b < t + 1/2, with both sides 2b times
+pub nearest_means : (a b t : ℕ) → 0 < b → nearest (pos a over pos b) ≡ pos t → (2 * (t * b) ≤ 2 * a + b) × (2 * a < 2 * (t * b) + b)
+nearest_means a b t p h =
+    let q : (a * 2 + 1 * b) / (b * 2) ≡ t = cc in
+    let d : 0 < b * 2 = omega arith in
+    let low : t * (b * 2) ≤ a * 2 + 1 * b = (le-div_iff_mul-le d).0 (le_of_eq (sym q)) in
+    let high : a * 2 + 1 * b < suc t * (b * 2) = (div-lt_iff_lt-mul d).0 (rw q (lt-suc_self t)) in
+    let e : t * (b * 2) ≡ t * b * 2 = sym (mul_assoc t b 2) in
+    (omega (arith, e), omega (arith, e, suc-mul t (b * 2)))
 
 module _ {A B : Type 0} (f : ℕ → B) (g : A → B) (d : A) where
   from : (i n : ℕ) (xs : List A) → map f (range_with_len i n) ≡ map g xs → (k : ℕ) → k < n → f (i + k) ≡ g (get_or xs k d)

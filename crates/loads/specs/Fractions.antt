@@ -1,7 +1,6 @@
 -- Exact fractions of whole numbers with a sign.
-use Rattle.std.specs.Prelude.{ℕ, zero, suc, ◌*◌}
+use Rattle.std.specs.Prelude.{ℕ, zero, suc, ◌*◌, ◌/◌}
 use lib.IntN.{ℤ, pos, negsuc, neg_ℤ, ◌+ℤ◌, ◌*ℤ◌}
-use lib.Signed.{shr_z}
 
 infixl 5 ◌over◌
 -- `a over b` is a / b; no fraction here has a 0 below
@@ -25,10 +24,15 @@ unfoldable pub factorial : ℕ → ℕ
 factorial zero = 1
 factorial (suc j) = suc j * factorial j
 
--- the greatest whole number up to a / b (`shr_z a n` is a / n, down)
+-- a / n, down: `negsuc a` is −(a + 1), and that of it is −(a / n + 1)
+abbrev pub down : ℤ → ℕ → ℤ
+down (pos a) n = pos (a / n)
+down (negsuc a) n = negsuc (a / n)
+
+-- the greatest whole number up to a fraction
 abbrev pub floor : Fraction → ℤ
-floor (a over (pos n)) = shr_z a n
-floor (a over (negsuc n)) = shr_z (neg_ℤ a) (suc n)
+floor (a over (pos n)) = down a n
+floor (a over (negsuc n)) = down (neg_ℤ a) (suc n)
 
 -- the whole number nearest, a half going up
 abbrev pub nearest : Fraction → ℤ

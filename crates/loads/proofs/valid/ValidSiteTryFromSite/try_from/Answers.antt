@@ -1,6 +1,5 @@
 use Rattle.std.proofs.Common.{sym}
 use Rattle.site.proofs.BoundsLaw.{bounds}
-use Rattle.loads.specs.Uptake.{stand_sum}
 use Rattle.loads.proofs.UptakeLaws.{entries_bounds}
 use Rattle.loads.proofs.valid.ValidSiteTryFromSite.try_from.Goals as goal
 
