@@ -1,7 +1,10 @@
--- Record A1 of document 01: 78 bytes, read and written again by the definitions.
+-- Record A1 of document 01: 78 bytes, read and written again by the definitions; and the same site at 3 °C, a record of kind 53.
 use mathlib.Core.Path.{◌≡◌, refl}
-use mathlib.Core.List.{List, [], ◌∷◌}
+use mathlib.Core.List.{List, [], ◌∷◌, ◌++◌}
 use Prim.Native.Nat.{ℕ}
+use lib.ListN.{drop}
+use Rattle.site.specs.declared.RecordKind.TheVariants.{Tag53}
+use Rattle.site.specs.declared.Site.{Site}
 use Rattle.std.specs.Prelude.{Ok}
 use Rattle.site.specs.ExampleSite.{a1}
 use Rattle.site.specs.Bytes.{tabulate, entry_at}
@@ -42,3 +45,18 @@ a1_read = refl
 pub a1_written : encode a1 ≡ bytes_a1
 unfolding encode_as encode_fields field_of value entries_bytes
 a1_written = refl
+
+-- A1 at 3 °C: the outer tag 53, 79 bytes of fields, and the field 10 after 0F
+abbrev pub bytes_a1_3 : List ℕ
+bytes_a1_3 = 83 ∷ 0 ∷ 79 ∷ drop 3 bytes_a1 ++ 16 ∷ 0 ∷ 1 ∷ 8 ∷ []
+
+abbrev a1_3 : Site
+a1_3 = record a1 { kind = Tag53; temperature = 8 }
+
+a1_3_read : read_record bytes_a1_3 ≡ Ok a1_3
+unfolding read_record single only_one site_at record_in ending outer_rule head_rule unless walk_fields field_rule length_permitted tabulate entry_at store value_rule stand_rule between name_byte entry_ranged rising_from shares_of blank_of blank_site site_tag site_kinds
+a1_3_read = refl
+
+a1_3_written : encode a1_3 ≡ bytes_a1_3
+unfolding encode_as encode_fields field_of value entries_bytes
+a1_3_written = refl

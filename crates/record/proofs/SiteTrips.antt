@@ -1,17 +1,19 @@
 -- Both round trips of a site's fields, by its laws by tag; and what reading leaves in a site.
 use mathlib.Core.Path.{◌≡◌, refl, ap, ◌∙◌}
 use mathlib.Core.List.{List, [], ◌∷◌}
-use Prim.Native.Nat.{ℕ}
+use Prim.Native.Nat.{ℕ, ◌*◌, ◌/◌}
 use lib.Dec.{ltb}
 use mathlib.Core.Bool.{true}
 use borrow.Author.Tests.{ltb-true, ne_eqb}
 use native.Mathlib.Omega.{arith}
-use lib.ListN.{take}
+use lib.ListN.{length, take}
 use Rattle.std.specs.Prelude.{Ok}
 use Rattle.site.specs.declared.Site.{Site}
+use Rattle.site.specs.declared.Entry.{Entry}
 use Rattle.site.specs.Bounds.{no_entry}
+use Rattle.site.specs.Bytes.{tabulate, name_in, entry_at}
 use Rattle.site.specs.Check.{fields_rule, site_rule}
-use Rattle.field.specs.Field.{store, blank_site, blank_of, value, site_kind}
+use Rattle.field.specs.Field.{store, entries_bytes, blank_site, blank_of, value, site_kind}
 use Rattle.site.specs.Refusal.{and_then}
 use Rattle.site.specs.declared.RecordKind.{RecordKind}
 use Rattle.site.specs.declared.RecordKind.TheVariants.{Tag52, Tag53}
@@ -100,34 +102,26 @@ module _ (s : Site) (z : Sized s) (e : site_rule s ≡ Ok tt) where
   unfolding site_rule
   passed = passed_fields (due s.kind) s e
 
+  abbrev name_bytes : List ℕ
+  name_bytes = take s.name.len s.name.bytes
+
+  abbrev entries : List Entry
+  entries = take s.stand.count s.stand.entries
+
+  -- name and stand, as they are stored from their own bytes
+  name_stored : record { bytes = name_in name_bytes; len = length name_bytes } ≡ (clean s).name
+  unfolding clean
+  name_stored = rw (tabulate_pad 8 8 name_bytes 0 (omega arith), name_long s z (name_and_stand s.kind passed).0.0)
+
+  stand_stored : record { entries = tabulate 4 (λ i. entry_at (entries_bytes entries) (4 * i)); count = length (entries_bytes entries) / 4 } ≡ (clean s).stand
+  unfolding clean
+  stand_stored =
+      rw (stand_back 4 entries, tabulate_pad 4 4 entries no_entry (omega arith), bytes_long s z (name_and_stand s.kind passed).1.0, quarter)
+
   stored_is_clean : (k : RecordKind) → s.kind ≡ k → store_all (site_kind k) (due k) s (blank_of k) ≡ clean s
   unfolding store_all store value clean blank_of blank_site temperature_of
-  stored_is_clean Tag52 is =
-      let es = take s.stand.count s.stand.entries in
-      let p = name_and_stand s.kind passed in
-      rw (
-        is,
-        tabulate_pad 8 8 (take s.name.len s.name.bytes) 0 (omega arith),
-        name_long s z p.0.0,
-        stand_back 4 es,
-        tabulate_pad 4 4 es no_entry (omega arith),
-        bytes_long s z p.1.0,
-        quarter,
-      )
-      (simp word_back)
-  stored_is_clean Tag53 is =
-      let es = take s.stand.count s.stand.entries in
-      let p = name_and_stand s.kind passed in
-      rw (
-        is,
-        tabulate_pad 8 8 (take s.name.len s.name.bytes) 0 (omega arith),
-        name_long s z p.0.0,
-        stand_back 4 es,
-        tabulate_pad 4 4 es no_entry (omega arith),
-        bytes_long s z p.1.0,
-        quarter,
-      )
-      (simp word_back)
+  stored_is_clean Tag52 is = rw (is, name_stored, stand_stored) (simp word_back)
+  stored_is_clean Tag53 is = rw (is, name_stored, stand_stored) (simp word_back)
 
   pub read_encode : (at : ℕ) → fields_in (site_kind s.kind) (encode_fields (site_kind s.kind) (due s.kind) s) at ≡ Ok (clean s)
   read_encode at =
