@@ -1,11 +1,11 @@
 -- The table of t has its rule, and what that says of each entry.
-use Prim.Native.Nat.{ℕ, zero, suc, ◌+◌, ◌*◌, ◌/◌, ◌≤◌, ◌<◌}
+use Prim.Native.Nat.{ℕ, zero, suc, ◌+◌, ◌-◌, ◌*◌, ◌/◌, ◌≤◌, ◌<◌}
 use mathlib.Core.Path.{◌≡◌, refl, sym}
 use mathlib.Core.List.{List, [], ◌∷◌, map}
 use native.Mathlib.Omega.{arith}
 use native.Mathlib.Nat.{le-div_iff_mul-le, div-lt_iff_lt-mul, le_of_eq, lt-suc_self, suc-mul, mul_assoc}
 use lib.IntN.{pos}
-use lib.Dec.{leb}
+use lib.Dec.{leb, eqb}
 use lib.ListN.{get_or}
 use borrow.Author.Tests.{leb-true}
 use Rattle.std.specs.List.{range_with_len}
@@ -17,6 +17,9 @@ use Rattle.site.specs.Kinds.{temperature_of}
 use Rattle.site.proofs.BelowLaws.{one_below}
 use Rattle.loads.specs.MostTerms.{most_factor}
 use Rattle.loads.specs.Fractions.{◌over◌, power, factorial, nearest}
+use Rattle.site.specs.Choice.{pick}
+use Rattle.loads.specs.Texture.{texture_of}
+use Rattle.loads.specs.Weathering.{class_of, weathering_of, weathering}
 use Rattle.loads.specs.Temperature.{series, per_mille, factors, factor_by, temperature_factor}
 
 -- each of the 26 entries is the whole number nearest to its sum
@@ -50,6 +53,10 @@ factor_is byte h = let e : 0 + byte ≡ byte = omega arith in rw e at (from per_
 pub factor_le : (byte : ℕ) → byte ≤ temperature_range.most → factor_by byte ≤ most_factor
 factor_le byte h = leb-true _ _ (one_below (λ b. leb (factor_by b) most_factor) 26 refl byte (omega arith))
 
+-- at t = 1000
+hundredth : (a : ℕ) → a * 1000 / 100000 ≡ a / 100
+hundredth a = omega arith
+
 module _ (s : Site) where
   -- t of a site that passes is the rule's at its temperature
   pub site_factor : Bounds s → per_mille (temperature_of s) ≡ pos (temperature_factor s)
@@ -64,3 +71,8 @@ module _ (s : Site) where
   pub factor_52 : s.kind ≡ Tag52 → temperature_factor s ≡ 1000
   unfolding temperature_factor temperature_of
   factor_52 e = rw e
+
+  -- so W is document 01's
+  pub weathering_52 : s.kind ≡ Tag52 → weathering s ≡ pick (eqb s.parent 0) 0 ((500 * class_of s.parent (texture_of s.clay s.sand) - 250) * s.depth / 100)
+  unfolding weathering weathering_of
+  weathering_52 e = rw (factor_52 e, hundredth ((500 * class_of s.parent (texture_of s.clay s.sand) - 250) * s.depth))
