@@ -37,6 +37,7 @@ nearest_means a b t p h =
     let e : t * (b * 2) ≡ t * b * 2 = sym (mul_assoc t b 2) in
     (omega (arith, e), omega (arith, e, suc-mul t (b * 2)))
 
+-- two lists that are equal are so at each place
 module _ {A B : Type 0} (f : ℕ → B) (g : A → B) (d : A) where
   from : (i n : ℕ) (xs : List A) → map f (range_with_len i n) ≡ map g xs → (k : ℕ) → k < n → f (i + k) ≡ g (get_or xs k d)
   from i zero xs e k h = absurd (omega arith)
@@ -52,6 +53,10 @@ factor_is byte h = let e : 0 + byte ≡ byte = omega arith in rw e at (from per_
 
 pub factor_le : (byte : ℕ) → byte ≤ temperature_range.most → factor_by byte ≤ most_factor
 factor_le byte h = leb-true _ _ (one_below (λ b. leb (factor_by b) most_factor) 26 refl byte (omega arith))
+
+-- byte 13 is T = 8
+pub at_eight : per_mille 13 ≡ pos 1000
+at_eight = factor_is 13 (omega arith)
 
 -- at t = 1000
 hundredth : (a : ℕ) → a * 1000 / 100000 ≡ a / 100
