@@ -2,7 +2,7 @@
 ghost use Rattle.std.specs.Prelude.{◌≡◌};
 ghost use Rattle.field.specs.Field.{blank_of};
 
-use site::{Entry, Name, RecordKind, Site, Stand};
+use site::{Entry, Name, RecordKind, Site, Stand, USUAL_TEMPERATURE};
 
 #[tactic(auto, unfolding(crate::specs::Field::blank_of, crate::specs::Field::blank_site))]
 pub fn blank(kind: RecordKind) -> Site
@@ -38,7 +38,6 @@ pub fn blank(kind: RecordKind) -> Site
         leachate: 0,
         sulphur: 0,
         nitrogen: 0,
-        // 8 °C, which counts where the kind has no such field
-        temperature: 13,
+        temperature: USUAL_TEMPERATURE,
     }
 }

@@ -4,6 +4,9 @@ ghost use Rattle.site.specs.Kinds.{kind_tag, kind_by, due, temperature_of};
 
 use crate::{RecordKind, Rule, Site};
 
+// The temperature byte of 8 °C, which stands for the field where a kind has none.
+pub const USUAL_TEMPERATURE: u8 = 13;
+
 impl RecordKind {
     pub fn tag(self) -> u8
         ensures { result ≡ kind_tag self }
@@ -45,7 +48,7 @@ impl Site {
         ensures { result ≡ temperature_of self }
     {
         match self.kind {
-            RecordKind::Tag52 => 13,
+            RecordKind::Tag52 => USUAL_TEMPERATURE,
             RecordKind::Tag53 => self.temperature,
         }
     }
