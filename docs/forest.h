@@ -12,7 +12,7 @@
  *    3  outer tag other than 52 and 53 (hexadecimal)                                   the outer field
  *    4  bytes after the 500th record, or after a single one                            the first byte left over
  *    5  inner field cut: under 3 bytes, or length beyond its record                    the field
- *    6  another tag than the next due, none left, or bytes after the last of its kind  the byte, or the record's end
+ *    6  another tag than the next due, none left, or bytes after the last field due    the byte, or the record's end
  *    7  length, or count of entries, not permitted                                     the field
  *    8  value out of range                                                             the field
  *    9  species not rising                                                             the field
@@ -40,7 +40,7 @@
  *   40  gibbsite constant, 2    42  hydrogen ceiling, 2     44  acceptable nitrogen in leachate, 2
  *   46  deposition S, 2         48  deposition N, 2         50  temperature, of kind 53 alone
  *
- * The temperature is the mean in degrees Celsius and 5 more, 0 to 25 for -5 to 20 degrees; a site of kind 52 weathers as at 8
+ * The temperature is the mean in degrees Celsius plus 5, 0 to 25 for -5 to 20 degrees; a site of kind 52 weathers as at 8
  * degrees. Any 50 or 51 bytes are a site value; a bad one is refused by rules 7 to 10, another length by 7.
  *
  * The rain sampler's months are 204 bytes, 17 for each of twelve months, numbers with the high byte first:

@@ -1,6 +1,6 @@
 //! How often each kind of record and of site value occurred, and each refusal in which they differ.
 
-use forest::{judge, temperature_factor, Kind, Site, Terms, Verdict};
+use forest::{judge, temperature_factor, Kind, Site, Terms, Verdict, EIGHT_DEGREES};
 
 /// Who takes records of both kinds, or site values.
 #[derive(Clone, Copy)]
@@ -115,7 +115,7 @@ impl Kinds {
             (7, 49) => 2,
             (7, 52) => 3,
             (7, length) if length != 50 && length != 51 => 4,
-            (8, 51) if passes_mild(value) => 5,
+            (8, 51) if too_hot_alone(value) => 5,
             _ => return,
         };
         self.values[row][call] += 1;
@@ -208,10 +208,11 @@ fn fault(file: &[u8], offset: usize) -> (u8, usize, &[u8]) {
     (file[start], fields, &file[offset..end_of(file, start)])
 }
 
-/// Whether the site of 51 bytes passes the checks once it is at 8 °C.
-fn passes_mild(value: &[u8]) -> bool {
-    let mild = [&value[..50], &[forest::EIGHT_DEGREES]].concat();
-    Site::from_bytes(&mild)
-        .and_then(|site| forest::check(&site))
-        .is_ok()
+/// Whether the temperature of a site value of 51 bytes is its only fault.
+fn too_hot_alone(value: &[u8]) -> bool {
+    let at = |temperature| {
+        let value = [&value[..50], &[temperature]].concat();
+        Site::from_bytes(&value).and_then(|site| forest::check(&site))
+    };
+    at(value[50]).is_err() && at(EIGHT_DEGREES).is_ok()
 }
