@@ -192,7 +192,8 @@ int main(void) {
     expect_numbers("loads of 52 bytes", forest_loads(site_53, SITE_53 + 1, numbers, 4), refusal(7, 0), judged, 0);
     expect_numbers("a level of 52 bytes", forest_level(site_53, SITE_53 + 1, numbers, 2), refusal(7, 0), judged, 0);
     expect_numbers("a judgement of 52 bytes", forest_judge(site_53, SITE_53 + 1, numbers, 8), refusal(7, 0), judged, 0);
-    expect_numbers("a year of 52 bytes", forest_sample(site_53, SITE_53 + 1, NULL, 0, numbers, 10), refusal(7, 0), judged, 0);
+    expect_numbers("a year of 52 bytes", forest_sample(site_53, SITE_53 + 1, months, MONTHS, numbers, 10), refusal(7, 0),
+                   judged, 0);
     site_53[50] = 13;
     expect_numbers("a judgement at 8", forest_judge(site_53, SITE_53, numbers, 8), 8, judged, 8);
     site_53[50] = 25;

@@ -10,7 +10,7 @@ pub enum By {
     Judge,
 }
 
-/// Refusals of records. Field 10 is that of kind 53, but for the last but two, where a record of kind 52 has one.
+/// Refusals of records. Field 10 is that of kind 53; after 0F it stands in a record of kind 52.
 const REFUSALS: [&str; 10] = [
     "3 at tag 51",
     "3 at tag 54",
