@@ -33,9 +33,10 @@ fn factor(celsius: i64) -> i64 {
     // Nothing is subtracted: the terms below zero stand on the other side.
     let (mut above, mut below) = (Whole::ZERO, Whole::ZERO);
     for j in 0..=12 {
-        let side = match j % 2 == 1 && a < 0 {
-            true => &mut below,
-            false => &mut above,
+        let side = if j % 2 == 1 && a < 0 {
+            &mut below
+        } else {
+            &mut above
         };
         *side = side.plus(term(j));
     }
