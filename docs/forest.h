@@ -9,10 +9,10 @@
  *   Refusal                                                                            Offset
  *    1  no bytes                                                                       0
  *    2  outer field cut: under 3 bytes, or length above 255 or beyond the end          the outer field
- *    3  outer tag not 52 (hexadecimal)                                                 the outer field
+ *    3  outer tag other than 52 and 53 (hexadecimal)                                   the outer field
  *    4  bytes after the 500th record, or after a single one                            the first byte left over
  *    5  inner field cut: under 3 bytes, or length beyond its record                    the field
- *    6  another tag than the next due, none left, or bytes after 0F (hexadecimal)      the byte, or the record's end
+ *    6  another tag than the next due, none left, or bytes after the last field due    the byte, or the record's end
  *    7  length, or count of entries, not permitted                                     the field
  *    8  value out of range                                                             the field
  *    9  species not rising                                                             the field
@@ -26,10 +26,11 @@
  * The first fault from the left is given, 14 after all months, and 11 only where there is no other.
  *
  * A field is a tag of one byte, a length of two bytes, high byte first, and a value. A record is an outer field whose value
- * is the fields 01 to 0F (hexadecimal), each once, rising; a file is 1 to 500 records. README.md, "A file of records", has
- * the values with their codes, units and ranges.
+ * is the fields of its kind, each once, rising. The kind is the outer tag: 52 has the fields 01 to 0F, 53 those and field 10
+ * (all hexadecimal). A file is 1 to 500 records, which may be of both kinds. README.md, "A file of records", has the values
+ * with their codes, units and ranges.
  *
- * A site value is the same values in 50 bytes, numbers of two bytes high byte first:
+ * A site value is the same values in 50 bytes for kind 52 and 51 for kind 53, numbers of two bytes high byte first:
  *
  *    0  name, 8 bytes            8  length of the name       9  parent material
  *   10  clay                    11  sand                    12  root depth
@@ -37,9 +38,10 @@
  *   32  count of entries        33  immobilisation, 2       35  available share of weathering
  *   36  base cation deposition, 2                           38  critical Bc/Al ratio, 2
  *   40  gibbsite constant, 2    42  hydrogen ceiling, 2     44  acceptable nitrogen in leachate, 2
- *   46  deposition S, 2         48  deposition N, 2
+ *   46  deposition S, 2         48  deposition N, 2         50  temperature, of kind 53 alone
  *
- * Any 50 bytes are a site value; a bad one is refused by rules 7 to 10, another length by 7.
+ * The temperature is the mean in degrees Celsius plus 5, 0 to 25 for -5 to 20 degrees; a site of kind 52 weathers as at 8
+ * degrees. Any 50 or 51 bytes are a site value; a bad one is refused by rules 7 to 10, another length by 7.
  *
  * The rain sampler's months are 204 bytes, 17 for each of twelve months, numbers with the high byte first:
  *

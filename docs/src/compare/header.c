@@ -1,6 +1,6 @@
 /*
- * The calls of forest.h as C sees them, on the record A1 of document 01: every answer, every element of the lent buffer,
- * and nothing, by null pointers. The last line is how many passed and failed.
+ * The calls of forest.h as C sees them, on the record A1 of document 01, and on this record in kind 53: every answer, every
+ * element of the lent buffer, and nothing, by null pointers. The last line is how many passed and failed.
  */
 #include "forest.h"
 
@@ -16,10 +16,15 @@ static const uint8_t file[156] = {
     0x52, 0, 75, 1, 0, 2, 'A', '1', FIELDS_02_TO_06, FIELDS_07_TO_0E, 15, 0, 4, 0x01, 0xF4, 0x02, 0xBC,
     0x52, 0, 75, 1, 0, 2, 'B', '2', FIELDS_02_TO_06, FIELDS_07_TO_0E, 15, 0, 4, 0x00, 0xC8, 0x00, 0xF0,
 };
-enum { RECORD = 78, SITE = 50, MONTH = 17, MONTHS = 204, ROOM = 200, SPARE = 0xA5 };
+/* A1 in kind 53, at 5 degrees below zero, before B2 in kind 52. */
+static const uint8_t mixed[160] = {
+    0x53, 0, 79, 1, 0, 2, 'A', '1', FIELDS_02_TO_06, FIELDS_07_TO_0E, 15, 0, 4, 0x01, 0xF4, 0x02, 0xBC, 16, 0, 1, 0,
+    0x52, 0, 75, 1, 0, 2, 'B', '2', FIELDS_02_TO_06, FIELDS_07_TO_0E, 15, 0, 4, 0x00, 0xC8, 0x00, 0xF0,
+};
+enum { RECORD = 78, RECORD_53 = 82, SITE = 50, SITE_53 = 51, MONTH = 17, MONTHS = 204, ROOM = 200, SPARE = 0xA5 };
 
-/* The longest listing and record that document 01 lets be are within what the header gives; 500 sites are on 9 pages. */
-_Static_assert(FOREST_MOST_TEXT >= 51 + 500 * (8 + 7 * 8 + 7 + 1) && FOREST_MOST_RECORD >= 96, "forest.h: too short");
+/* The longest listing and record that documents 01 and 02 let be are within what the header gives; 500 sites are on 9 pages. */
+_Static_assert(FOREST_MOST_TEXT >= 51 + 500 * (8 + 7 * 8 + 7 + 1) && FOREST_MOST_RECORD >= 100, "forest.h: too short");
 _Static_assert(FOREST_MOST_PAGES == (9 + 500) * (64 + 1), "forest.h: all pages");
 
 static const uint8_t site[SITE] = {
@@ -40,6 +45,15 @@ static const char listing[] = "id maxS minN maxN nutN region acidEx nutEx verdic
 static const char page[] = "id          maxS    minN    maxN    nutNre acidEx  nutExverdict \n"
                            "A1           735     205    1021     249 2    221    451   over \n"
                            "B2           735     205    1021     249 0      0      0 within \n";
+
+/* There t is 537, so that W is 67, w 53, Bu 181, A 258, h 755, M 151 + 258, and v 350,500. */
+static const char mixed_listing[] = "id maxS minN maxN nutN region acidEx nutEx verdict\n"
+                                    "A1 595 205 866 249 2 368 451 over\n"
+                                    "B2 735 205 1021 249 0 0 0 within\n";
+
+static const char mixed_page[] = "id          maxS    minN    maxN    nutNre acidEx  nutExverdict \n"
+                                 "A1           595     205     866     249 2    368    451   over \n"
+                                 "B2           735     205    1021     249 0      0      0 within \n";
 
 static unsigned passed, failed;
 
@@ -142,6 +156,58 @@ int main(void) {
     came_within[13] = 6;
     expect_numbers("a bad site, no months", forest_sample(came_within, SITE, NULL, 0, numbers, 11), refusal(8, 0), sampled, 0);
     expect_numbers("a year of no site", forest_sample(NULL, 0, NULL, 0, NULL, 0), refusal(7, 0), sampled, 0);
+
+    const size_t mixed_length = sizeof mixed_listing - 1;
+    uint8_t hot[RECORD_53], unfinished[RECORD];
+    memcpy(hot, mixed, RECORD_53);
+    hot[81] = 26;
+    memcpy(unfinished, mixed, RECORD);
+    unfinished[2] = 75;
+    expect_text("both kinds", forest_list(mixed, sizeof mixed, text, ROOM), mixed_length, mixed_listing, mixed_length);
+    expect_text("both kinds reported", forest_report(mixed, sizeof mixed, text, ROOM), mixed_length, mixed_listing, mixed_length);
+    expect_text("a page of both kinds", forest_pages(mixed, sizeof mixed, text, ROOM), page_length, mixed_page, page_length);
+    expect_text("kind 53 again", forest_rewrite(mixed, RECORD_53, text, ROOM), RECORD_53, mixed, RECORD_53);
+    expect_text("kind 53 does not fit", forest_rewrite(mixed, RECORD_53, text, RECORD_53 - 1), refusal(11, 0), "", 0);
+    expect_text("a record after kind 53", forest_rewrite(mixed, sizeof mixed, text, ROOM), refusal(4, RECORD_53), "", 0);
+    expect_text("a temperature of 21", forest_rewrite(hot, RECORD_53, text, ROOM), refusal(8, RECORD), "", 0);
+    expect_text("kind 53 without a temperature", forest_rewrite(unfinished, RECORD, text, ROOM), refusal(6, RECORD), "", 0);
+    hot[0] = 0x52;
+    expect_text("kind 52 with a temperature", forest_rewrite(hot, RECORD_53, text, ROOM), refusal(6, RECORD), "", 0);
+    hot[0] = 0x54;
+    expect_text("an outer tag of 54", forest_rewrite(hot, RECORD_53, text, ROOM), refusal(3, 0), "", 0);
+
+    /* A1 in 51 bytes. At 20 degrees t is 1690, so that W is 211, w 168, Bu 181, A 430, h 895, M 179 + 430, and v 6500. */
+    static const uint64_t cold[10] = {500, 700, 595, 205, 866, 249, 2, 368, 451, 1}, cold_searched[2] = {755, 11};
+    static const uint64_t warm[10] = {500, 700, 939, 205, 1248, 249, 2, 7, 451, 1}, warm_searched[2] = {895, 11};
+    uint8_t site_53[SITE_53 + 1] = {0};
+    memcpy(site_53, site, SITE);
+    expect("a site of 51 bytes", forest_check(site_53, SITE_53) == 0);
+    expect("a site of 52 bytes", forest_check(site_53, SITE_53 + 1) == refusal(7, 0));
+    expect_numbers("loads at -5", forest_loads(site_53, SITE_53, numbers, 4), 4, cold + 2, 4);
+    expect_numbers("a level at -5", forest_level(site_53, SITE_53, numbers, 2), 2, cold_searched, 2);
+    expect_numbers("a judgement at -5", forest_judge(site_53, SITE_53, numbers, 8), 8, cold + 2, 8);
+    expect_numbers("a year at -5", forest_sample(site_53, SITE_53, months, MONTHS, numbers, 10), 10, cold, 10);
+    expect_numbers("the first 50 bytes", forest_judge(site_53, SITE, numbers, 8), 8, judged, 8);
+    expect_numbers("the first 49 bytes", forest_judge(site_53, SITE - 1, numbers, 8), refusal(7, 0), judged, 0);
+    expect_numbers("loads of 52 bytes", forest_loads(site_53, SITE_53 + 1, numbers, 4), refusal(7, 0), judged, 0);
+    expect_numbers("a level of 52 bytes", forest_level(site_53, SITE_53 + 1, numbers, 2), refusal(7, 0), judged, 0);
+    expect_numbers("a judgement of 52 bytes", forest_judge(site_53, SITE_53 + 1, numbers, 8), refusal(7, 0), judged, 0);
+    expect_numbers("a year of 52 bytes", forest_sample(site_53, SITE_53 + 1, months, MONTHS, numbers, 10), refusal(7, 0),
+                   judged, 0);
+    site_53[50] = 13;
+    expect_numbers("a judgement at 8", forest_judge(site_53, SITE_53, numbers, 8), 8, judged, 8);
+    site_53[50] = 25;
+    expect_numbers("loads at 20", forest_loads(site_53, SITE_53, numbers, 4), 4, warm + 2, 4);
+    expect_numbers("a level at 20", forest_level(site_53, SITE_53, numbers, 2), 2, warm_searched, 2);
+    expect_numbers("a judgement at 20", forest_judge(site_53, SITE_53, numbers, 8), 8, warm + 2, 8);
+    expect_numbers("a year at 20", forest_sample(site_53, SITE_53, months, MONTHS, numbers, 10), 10, warm, 10);
+    site_53[50] = 26;
+    expect("a site at 21", forest_check(site_53, SITE_53) == refusal(8, 0));
+    expect_numbers("loads at 21", forest_loads(site_53, SITE_53, numbers, 4), refusal(8, 0), judged, 0);
+    expect_numbers("a level at 21", forest_level(site_53, SITE_53, numbers, 2), refusal(8, 0), judged, 0);
+    expect_numbers("a judgement at 21", forest_judge(site_53, SITE_53, numbers, 8), refusal(8, 0), judged, 0);
+    expect_numbers("a year at 21", forest_sample(site_53, SITE_53, months, MONTHS, numbers, 10), refusal(8, 0), judged, 0);
+    expect("50 bytes, at no temperature", forest_check(site_53, SITE) == 0);
 
     printf("%u passed, %u failed\n", passed, failed);
     return failed > 0;

@@ -1,6 +1,6 @@
 /*
  * Measures the stack that each call of forest.h takes. A call runs on a stack of its own, painted before, with inputs
- * that lead deepest: the greatest values, a refusal, a buffer too short, and nothing, by null pointers.
+ * that lead deepest: the greatest values of either kind, a refusal, a buffer too short, and nothing, by null pointers.
  */
 #include "forest.h"
 
@@ -8,32 +8,40 @@
 #include <string.h>
 #include <ucontext.h>
 
-enum { PAINT = 0xA5, RECORD = 96, FULL = 500 * RECORD, TEXT = 64000, SITE = 50, MONTHS = 204 };
+enum { PAINT = 0xA5, RECORD = 100, FULL = 500 * RECORD, TEXT = 64000, SITE = 51, MONTHS = 204, INPUTS = 5 };
+/* Kind 52 has no field 10, and no temperature byte. */
+enum { RECORD_52 = RECORD - 4, FULL_52 = 500 * RECORD_52, SITE_52 = SITE - 1 };
 
 #define NAME 'Z', 'Z', 'Z', 'Z', 'Z', 'Z', 'Z', 'Z'
 #define STAND 5, 25, 0x4E, 0x20, 6, 25, 0x4E, 0x20, 7, 25, 0x4E, 0x20, 8, 25, 0x4E, 0x20
 
 static const uint8_t record[RECORD] = {
-    0x52, 0, 93, 0x01, 0, 8, NAME, 0x02, 0, 1, 4, 0x03, 0, 2, 100, 0, 0x04, 0, 1, 200, 0x05, 0, 1, 5,
+    0x53, 0, 97, 0x01, 0, 8, NAME, 0x02, 0, 1, 4, 0x03, 0, 2, 100, 0, 0x04, 0, 1, 200, 0x05, 0, 1, 5,
     0x06, 0, 2, 0x0B, 0xB8, 0x07, 0, 16, STAND, 0x08, 0, 2, 0x01, 0xF4, 0x09, 0, 1, 85,
     0x0A, 0, 2, 0x13, 0x88, 0x0B, 0, 2, 0x4E, 0x20, 0x0C, 0, 2, 0x27, 0x10, 0x0D, 0, 2, 0x13, 0x88,
-    0x0E, 0, 2, 0x03, 0xE8, 0x0F, 0, 4, 0xFF, 0xFF, 0xFF, 0xFF,
+    0x0E, 0, 2, 0x03, 0xE8, 0x0F, 0, 4, 0xFF, 0xFF, 0xFF, 0xFF, 0x10, 0, 1, 25,
 };
 static const uint8_t site[SITE] = {
     NAME, 8, 4, 100, 0, 200, 5, 0x0B, 0xB8, STAND, 4, 0x01, 0xF4, 85,
-    0x13, 0x88, 0x4E, 0x20, 0x27, 0x10, 0x13, 0x88, 0x03, 0xE8, 0xFF, 0xFF, 0xFF, 0xFF,
+    0x13, 0x88, 0x4E, 0x20, 0x27, 0x10, 0x13, 0x88, 0x03, 0xE8, 0xFF, 0xFF, 0xFF, 0xFF, 25,
 };
 static const uint8_t bad_site[SITE], months[MONTHS], bad_months[MONTHS] = {0xFF};
-static uint8_t file[FULL + 1], text[TEXT];
+static uint8_t file[FULL + 1], file_52[FULL_52], text[TEXT];
 static uint64_t numbers[10];
 
 struct input {
     const uint8_t *bytes;
     size_t length, room;
 };
-static const struct input files[4] = {{file, FULL, TEXT}, {file, FULL + 1, TEXT}, {file, FULL, 0}, {NULL, 0, 0}};
-static const struct input records[4] = {{file, RECORD, TEXT}, {file, RECORD + 1, TEXT}, {file, RECORD, 0}, {NULL, 0, 0}};
-static const struct input sites[4] = {{site, SITE, 10}, {bad_site, SITE, 10}, {site, SITE, 0}, {NULL, 0, 0}};
+static const struct input files[INPUTS] = {
+    {file, FULL, TEXT}, {file_52, FULL_52, TEXT}, {file, FULL + 1, TEXT}, {file, FULL, 0}, {NULL, 0, 0},
+};
+static const struct input records[INPUTS] = {
+    {file, RECORD, TEXT}, {file_52, RECORD_52, TEXT}, {file, RECORD + 1, TEXT}, {file, RECORD, 0}, {NULL, 0, 0},
+};
+static const struct input sites[INPUTS] = {
+    {site, SITE, 10}, {site, SITE_52, 10}, {bad_site, SITE, 10}, {site, SITE, 0}, {NULL, 0, 0},
+};
 
 static struct input in;
 static uint8_t *bytes_out(void) { return in.room ? text : NULL; }
@@ -70,9 +78,9 @@ static size_t stack_of(void (*call)(void)) {
     return sizeof stack - untouched;
 }
 
-static void measure(const char *name, void (*call)(void), const struct input inputs[4]) {
+static void measure(const char *name, void (*call)(void), const struct input inputs[INPUTS]) {
     size_t most = 0;
-    for (int i = 0; i < 4; i++) {
+    for (int i = 0; i < INPUTS; i++) {
         in = inputs[i];
         size_t took = stack_of(call);
         if (took > most)
@@ -84,6 +92,10 @@ static void measure(const char *name, void (*call)(void), const struct input inp
 int main(void) {
     for (size_t at = 0; at < FULL; at += RECORD)
         memcpy(file + at, record, RECORD);
+    for (size_t at = 0; at < FULL_52; at += RECORD_52) {
+        memcpy(file_52 + at, record, RECORD_52);
+        file_52[at] = 0x52, file_52[at + 2] = RECORD_52 - 3;
+    }
     measure("forest_list", list, files);
     measure("forest_pages", pages, files);
     measure("forest_report", report, files);

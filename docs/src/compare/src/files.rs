@@ -2,7 +2,8 @@
 
 use crate::random::Random;
 use crate::sites;
-use forest::Site;
+use forest::Kind::{Tag52, Tag53};
+use forest::{Kind, Site};
 
 /// A field whose length need not be that of its value.
 #[derive(Clone)]
@@ -35,7 +36,7 @@ fn fields(site: &Site) -> Vec<Field> {
         let [high, low] = entry.growth.to_be_bytes();
         [entry.species, entry.share, high, low]
     });
-    let values = [
+    let mut values = vec![
         site.name[..usize::from(site.name_length)].to_vec(),
         vec![site.parent_material],
         vec![site.clay, site.sand],
@@ -52,6 +53,9 @@ fn fields(site: &Site) -> Vec<Field> {
         two(site.leachate_nitrogen),
         [two(site.sulphur), two(site.nitrogen)].concat(),
     ];
+    if site.kind == Tag53 {
+        values.push(vec![site.temperature]);
+    }
     (0x01..)
         .zip(values)
         .map(|(tag, value)| Field::new(tag, value))
@@ -59,32 +63,39 @@ fn fields(site: &Site) -> Vec<Field> {
 }
 
 /// An outer field around a value.
-fn outer(value: Vec<u8>) -> Vec<u8> {
-    Field::new(0x52, value).bytes()
+fn outer(tag: u8, value: Vec<u8>) -> Vec<u8> {
+    Field::new(tag, value).bytes()
 }
 
-fn assemble(fields: &[Field]) -> Vec<u8> {
-    outer(fields.iter().flat_map(Field::bytes).collect())
+fn assemble(kind: Kind, fields: &[Field]) -> Vec<u8> {
+    let value = fields.iter().flat_map(Field::bytes).collect();
+    outer(kind as u8, value)
 }
 
 /// The record of a site.
 pub fn record_of(site: &Site) -> Vec<u8> {
-    assemble(&fields(site))
+    assemble(site.kind, &fields(site))
 }
 
 pub fn good_record(random: &mut Random) -> Vec<u8> {
     record_of(&sites::good(random))
 }
 
+/// Records of one kind or of both.
 pub fn good_records(random: &mut Random, count: usize) -> Vec<u8> {
-    (0..count).flat_map(|_| good_record(random)).collect()
+    let kinds = random.pick(&[&[Tag52][..], &[Tag53], &[Tag52, Tag53], &[Tag52, Tag53]]);
+    let mut record = || {
+        let (kind, entries) = (random.pick(kinds), random.between(1, 4) as u8);
+        record_of(&sites::good_of(random, kind, entries))
+    };
+    (0..count).flat_map(|_| record()).collect()
 }
 
-/// A record damaged in its values, its fields or its bytes.
+/// A record damaged in its values, its fields, its outer tag or its bytes.
 fn damaged_record(random: &mut Random) -> Vec<u8> {
     let mut site = sites::good(random);
     let places = random.pick(&[1, 1, 1, 2, 3]);
-    match random.below(8) {
+    match random.below(9) {
         0..=2 => {
             (0..places).for_each(|_| sites::spoil_value(random, &mut site));
             record_of(&site)
@@ -92,9 +103,16 @@ fn damaged_record(random: &mut Random) -> Vec<u8> {
         3..=5 => {
             let mut fields = fields(&site);
             (0..places).for_each(|_| damage_fields(random, &mut fields));
-            assemble(&fields)
+            assemble(site.kind, &fields)
         }
         6 => cut_within(random, &record_of(&site)),
+        // That of the other kind, or the one before or after both.
+        7 => {
+            let other = site.kind as u8 ^ 1;
+            let mut record = record_of(&site);
+            record[0] = random.pick(&[other, other, 0x51, 0x54]);
+            record
+        }
         _ => {
             let mut record = record_of(&site);
             (0..places).for_each(|_| damage_bytes(random, &mut record));
@@ -113,7 +131,9 @@ fn damage_fields(random: &mut Random, fields: &mut Vec<Field>) {
         0 => {
             field.tag = random.pick(&[
                 0,
+                0x0F,
                 0x10,
+                0x11,
                 0x52,
                 field.tag ^ 1,
                 field.tag.wrapping_add(1),
@@ -154,8 +174,8 @@ fn damage_fields(random: &mut Random, fields: &mut Vec<Field>) {
         }
         9 => {
             let more = random.below(4);
-            let value = random.bytes(more);
-            fields.push(Field::new(0x10, value));
+            let (tag, value) = (random.pick(&[0x10, 0x11]), random.bytes(more));
+            fields.push(Field::new(tag, value));
         }
         // Nothing left where a field is due.
         10 => fields.truncate(at),
@@ -179,7 +199,7 @@ fn cut_within(random: &mut Random, record: &[u8]) -> Vec<u8> {
         let more = random.between(1, 2) as usize;
         value.extend(random.bytes(more));
     }
-    outer(value)
+    outer(record[0], value)
 }
 
 fn damage_bytes(random: &mut Random, bytes: &mut Vec<u8>) {
@@ -188,7 +208,7 @@ fn damage_bytes(random: &mut Random, bytes: &mut Vec<u8>) {
     }
     let at = random.below(bytes.len());
     match random.below(8) {
-        0 => bytes[0] = random.pick(&[0, 0x01, 0x51, 0x53, 0x72, 0xFF]),
+        0 => bytes[0] = random.pick(&[0, 0x01, 0x51, 0x52, 0x53, 0x54, 0x55, 0x72, 0xFF]),
         1 => bytes[1] = random.pick(&[1, 2, 0x80, 0xFF]),
         2 => bytes[2] = bytes[2].wrapping_add(random.pick(&[1, 2, 3, 4, 255, 254, 253])),
         3 => bytes[2] = random.pick(&[0, 1, 2, 3, 255]),
@@ -292,16 +312,18 @@ fn some_pages(random: &mut Random) -> Vec<u8> {
 /// Files at the borders of 500 records and of the program's buffers, and longer ones.
 pub fn border_files(random: &mut Random) -> Vec<Vec<u8>> {
     // Two values of 255 bytes: a whole record's fields with bytes after them, and a name too long.
-    let mut whole = good_record(random)[3..].to_vec();
+    let record = good_record(random);
+    let mut whole = record[3..].to_vec();
     whole.resize(255, 0x10);
-    let whole = outer(whole);
-    let long_name = outer(Field::new(0x01, vec![b'A'; 252]).bytes());
+    let whole = outer(record[0], whole);
+    let long_name = outer(0x53, Field::new(0x01, vec![b'A'; 252]).bytes());
     vec![
         good_records(random, 500),
         good_records(random, 501),
         longest_records(random, 500),
         longest_records(random, 501),
         [&longest_records(random, 500)[..], &[0x52]].concat(),
+        [&longest_records(random, 500)[..], &[0x53]].concat(),
         [&longest_records(random, 499)[..], &long_name].concat(),
         [&longest_records(random, 499)[..], &whole].concat(),
         [&longest_records(random, 499)[..], &whole[..257]].concat(),
@@ -311,6 +333,8 @@ pub fn border_files(random: &mut Random) -> Vec<Vec<u8>> {
         vec![0x52; 129_000],
         vec![0; 129_001],
         vec![0x52; 400_000],
+        vec![0x53; 129_000],
+        vec![0x53; 400_000],
     ]
 }
 
@@ -324,15 +348,15 @@ pub fn page_border_files(random: &mut Random) -> Vec<Vec<u8>> {
         .map(|&count| good_records(random, count))
         .collect();
     files.push([&longest_records(random, 59)[..], &[0x52]].concat());
-    files.push([longest_records(random, 118), outer(vec![0x01])].concat());
+    files.push([longest_records(random, 118), outer(0x53, vec![0x01])].concat());
     files
 }
 
-/// Valid records of 96 bytes each: a name of eight, a stand of four.
+/// Valid records of 100 bytes each: of kind 53, a name of eight, a stand of four.
 fn longest_records(random: &mut Random, count: usize) -> Vec<u8> {
-    let records = std::iter::repeat_with(|| record_of(&sites::good_with_entries(random, 4)));
+    let records = std::iter::repeat_with(|| record_of(&sites::good_of(random, Tag53, 4)));
     records
-        .filter(|record| record.len() == 96)
+        .filter(|record| record.len() == 100)
         .take(count)
         .flatten()
         .collect()

@@ -26,7 +26,7 @@ pub fn sampled_site(random: &mut Random) -> (Vec<u8>, Vec<u8>) {
     let mut value = sites::value(random);
     let mut months = match Site::from_bytes(&value) {
         Ok(site) if random.one_in(2) => {
-            value[46..].copy_from_slice(&random.bytes(4));
+            value[46..50].copy_from_slice(&random.bytes(4));
             let sulphur = sum(random, site.sulphur, 1600);
             let nitrogen = sum(random, site.nitrogen, 1400);
             with_sums(random, sulphur, nitrogen)

@@ -1,7 +1,7 @@
 //! Site values, good and bad.
 
 use crate::random::Random;
-use forest::{Entry, Site, Terms};
+use forest::{Entry, Kind, Site, Terms};
 
 /// A number in its range, often at or near an end.
 pub(crate) fn ranged(random: &mut Random, low: i64, high: i64) -> i64 {
@@ -15,18 +15,21 @@ pub(crate) fn ranged(random: &mut Random, low: i64, high: i64) -> i64 {
     }
 }
 
-/// A site that passes the checks, with a pair of any region. Name bytes and entries that are no part of it hold anything.
+/// A site of either kind that passes the checks, with a pair of any region. What is no part of it holds anything: name
+/// bytes, entries, and the temperature of kind 52.
 pub fn good(random: &mut Random) -> Site {
+    let kind = random.pick(&[Kind::Tag52, Kind::Tag53]);
     let entries = random.between(1, 4) as u8;
-    good_with_entries(random, entries)
+    good_of(random, kind, entries)
 }
 
-/// As [`good`], with a stand of so many entries.
-pub fn good_with_entries(random: &mut Random, entries: u8) -> Site {
+/// As [`good`], of a kind and with a stand of so many entries.
+pub fn good_of(random: &mut Random, kind: Kind, entries: u8) -> Site {
     let name_length = random.between(1, 8) as u8;
     let clay = ranged(random, 0, 100);
     let sand = ranged(random, 0, 100 - clay);
     let mut site = Site {
+        kind,
         name: name(random, name_length),
         name_length,
         parent_material: random.below(5) as u8,
@@ -46,6 +49,10 @@ pub fn good_with_entries(random: &mut Random, entries: u8) -> Site {
         leachate_nitrogen: ranged(random, 1, 1000) as u16,
         sulphur: 0,
         nitrogen: 0,
+        temperature: match kind {
+            Kind::Tag52 => random.byte(),
+            Kind::Tag53 => ranged(random, 0, 25) as u8,
+        },
     };
     set_pair(random, &mut site);
     site
@@ -119,9 +126,9 @@ fn set_pair(random: &mut Random, site: &mut Site) {
     site.nitrogen = nitrogen as u16;
 }
 
-/// Takes one value of a site out of its range. Lengths stay as they are.
+/// Takes one value of a site out of its range. Lengths stay as they are; a site with a bad temperature is of kind 53.
 pub fn spoil_value(random: &mut Random, site: &mut Site) {
-    match random.below(22) {
+    match random.below(23) {
         0 => {
             let at = random.below(usize::from(site.name_length.clamp(1, 8)));
             site.name[at] = random.pick(b"@[/:,.`az_ \0\x80\xFF");
@@ -151,7 +158,11 @@ pub fn spoil_value(random: &mut Random, site: &mut Site) {
         13 => site.gibbsite = random.pick(&[0, 10001, 65535]),
         14 => site.hydrogen_ceiling = random.pick(&[0, 5001, 65535]),
         15 => site.leachate_nitrogen = random.pick(&[0, 1001, 65535]),
-        16..=18 => spoil_species(random, site),
+        16 => {
+            site.kind = Kind::Tag53;
+            site.temperature = random.pick(&[26, 27, 128, 251, 255]);
+        }
+        17..=19 => spoil_species(random, site),
         _ => spoil_shares(random, site),
     }
 }
@@ -192,10 +203,11 @@ fn spoil_shares(random: &mut Random, site: &mut Site) {
     }
 }
 
-/// A site value as its 50 bytes, or as another number of bytes: often good, else broken in one or more ways.
+/// A site value as its 50 or 51 bytes, or as another number of bytes: often good, else broken in one or more ways.
 pub fn value(random: &mut Random) -> Vec<u8> {
     if random.one_in(64) {
-        return random.bytes(50);
+        let length = random.pick(&[50, 51]);
+        return random.bytes(length);
     }
     let mut site = good(random);
     if random.one_in(3) {
@@ -213,13 +225,14 @@ pub fn value(random: &mut Random) -> Vec<u8> {
         value[at] = random.byte();
     }
     if random.one_in(64) {
-        let length = random.pick(&[0, 1, 49, 51, 52, 100]);
-        value.resize(length, 0);
+        // Between 50 and 51 the value is then of the other kind.
+        let length = random.pick(&[0, 1, 49, 50, 51, 52, 53, 100]);
+        value.resize(length, random.pick(&[0, 13, 25, 26]));
     }
     value
 }
 
-/// The 50 bytes of a site value.
+/// The bytes of a site value: 50 of kind 52, 51 of kind 53.
 pub fn bytes(site: &Site) -> Vec<u8> {
     let mut value = site.name.to_vec();
     value.extend([
@@ -248,6 +261,9 @@ pub fn bytes(site: &Site) -> Vec<u8> {
         site.nitrogen,
     ] {
         value.extend(number.to_be_bytes());
+    }
+    if site.kind == Kind::Tag53 {
+        value.push(site.temperature);
     }
     value
 }

@@ -1,7 +1,7 @@
 //! Critical loads, exceedances and verdicts of forest sites, as document 01 and E2 of document 02 state them, with the pages of E1,
-//! the rain sampler of E3 and the hydrogen search of E4.
+//! the rain sampler of E3, the hydrogen search of E4 and the temperature of E5.
 //!
-//! Numbers are `i64` throughout: the greatest product, Q × K × h³, is 3.75 × 10¹⁸.
+//! Numbers are `i64` throughout, but for those of which t is worked out: the greatest product, Q × K × h³, is 3.75 × 10¹⁸.
 
 mod judgement;
 mod level;
@@ -11,7 +11,9 @@ mod record;
 mod refusal;
 mod sampler;
 mod site;
+mod temperature;
 mod terms;
+mod whole;
 
 pub use judgement::{judge, Judgement, Verdict};
 pub use level::{level, search, Found};
@@ -20,5 +22,6 @@ pub use pages::pages;
 pub use record::{read_record, rewrite, write_record};
 pub use refusal::{Refusal, Rule};
 pub use sampler::{months_from_bytes, sample, year, Month, Reading, Sampled};
-pub use site::{check, Entry, Site};
+pub use site::{check, Entry, Kind, Site, EIGHT_DEGREES};
+pub use temperature::temperature_factor;
 pub use terms::{aluminium, hydrogen, loads, texture_class, Loads, Terms};

@@ -1,7 +1,5 @@
 use crate::refusal::{lend, Refusal, Rule};
-use crate::site::{check, check_field, Entry, Site};
-
-const OUTER: u8 = 0x52;
+use crate::site::{check, check_field, Entry, Kind, Site, EIGHT_DEGREES};
 
 /// Reads a single record: a file of at most one.
 pub fn read_record(input: &[u8]) -> Result<Site, Refusal> {
@@ -13,7 +11,7 @@ pub fn read_record(input: &[u8]) -> Result<Site, Refusal> {
 /// Writes the record of a site value, once it passes the checks.
 pub fn write_record(site: &Site, out: &mut [u8]) -> Result<usize, Refusal> {
     check(site)?;
-    let mut fields = Vec::with_capacity(96);
+    let mut fields = Vec::with_capacity(100);
     let mut field = |tag: u8, value: &[u8]| {
         fields.extend([tag, 0, value.len() as u8]);
         fields.extend(value);
@@ -35,8 +33,11 @@ pub fn write_record(site: &Site, out: &mut [u8]) -> Result<usize, Refusal> {
     field(0x0E, &site.leachate_nitrogen.to_be_bytes());
     let [[s0, s1], [n0, n1]] = [site.sulphur, site.nitrogen].map(u16::to_be_bytes);
     field(0x0F, &[s0, s1, n0, n1]);
+    if site.kind == Kind::Tag53 {
+        field(0x10, &[site.temperature]);
+    }
 
-    let mut record = vec![OUTER, 0, fields.len() as u8];
+    let mut record = vec![site.kind as u8, 0, fields.len() as u8];
     record.append(&mut fields);
     lend(&record, out)
 }
@@ -68,26 +69,28 @@ pub(crate) fn each_record(
         let &[tag, high, low, ref rest @ ..] = &file[at..] else {
             return Err(Rule::OuterCut.at(at));
         };
-        if tag != OUTER {
-            return Err(Rule::OuterTag.at(at));
-        }
+        let kind = Kind::of_tag(tag).ok_or(Rule::OuterTag.at(at))?;
         let length = usize::from(u16::from_be_bytes([high, low]));
         if length > 255 || length > rest.len() {
             return Err(Rule::OuterCut.at(at));
         }
-        take(&read_fields(&rest[..length], at + 3)?);
+        take(&read_fields(kind, &rest[..length], at + 3)?);
         at += 3 + length;
         count += 1;
     }
     Ok(())
 }
 
-/// Reads the fields of a record; `start` is where they begin in the input.
-fn read_fields(fields: &[u8], start: usize) -> Result<Site, Refusal> {
+/// Reads the fields of a record of a kind; `start` is where they begin in the input.
+fn read_fields(kind: Kind, fields: &[u8], start: usize) -> Result<Site, Refusal> {
     let end = start + fields.len();
-    let mut site = Site::default();
+    let mut site = Site {
+        kind,
+        temperature: EIGHT_DEGREES,
+        ..Site::default()
+    };
     let mut rest = fields;
-    for due in 0x01..=0x0F {
+    for due in kind.tags() {
         let at = end - rest.len();
         let (value, after) = read_field(rest, due).map_err(|rule| rule.at(at))?;
         set(&mut site, due, value)
@@ -152,6 +155,7 @@ fn set(site: &mut Site, tag: u8, value: &[u8]) -> Result<(), Rule> {
             site.sulphur = u16::from_be_bytes([a, b]);
             site.nitrogen = u16::from_be_bytes([c, d]);
         }
+        (0x10, &[v]) => site.temperature = v,
         _ => return Err(Rule::Length),
     }
     Ok(())

@@ -1,4 +1,35 @@
 use crate::refusal::{Refusal, Rule};
+use std::ops::RangeInclusive;
+
+/// The kind of a record, by its outer tag.
+#[derive(Clone, Copy, Debug, Default, PartialEq, Eq)]
+pub enum Kind {
+    /// The fields 01 to 0F.
+    #[default]
+    Tag52 = 0x52,
+    /// These and field 10, the temperature.
+    Tag53 = 0x53,
+}
+
+impl Kind {
+    pub(crate) fn of_tag(tag: u8) -> Option<Kind> {
+        [Kind::Tag52, Kind::Tag53]
+            .into_iter()
+            .find(|&kind| kind as u8 == tag)
+    }
+
+    /// The tags due in its records.
+    #[inline(always)]
+    pub(crate) fn tags(self) -> RangeInclusive<u8> {
+        match self {
+            Kind::Tag52 => 0x01..=0x0F,
+            Kind::Tag53 => 0x01..=0x10,
+        }
+    }
+}
+
+/// The temperature byte of 8 °C, which the reader gives to a site of kind 52.
+pub const EIGHT_DEGREES: u8 = 13;
 
 /// One species of the stand.
 #[derive(Clone, Copy, Debug, Default, PartialEq, Eq)]
@@ -13,6 +44,7 @@ pub struct Entry {
 /// A site's values as a record holds them; any content is possible, [`check`] tells the good ones.
 #[derive(Clone, Copy, Debug, Default, PartialEq, Eq)]
 pub struct Site {
+    pub kind: Kind,
     pub name: [u8; 8],
     pub name_length: u8,
     pub parent_material: u8,
@@ -32,12 +64,20 @@ pub struct Site {
     pub leachate_nitrogen: u16,
     pub sulphur: u16,
     pub nitrogen: u16,
+    /// °C above −5; no part of a site of kind 52.
+    pub temperature: u8,
 }
 
 impl Site {
-    /// The site value of `docs/forest.h`; another length than 50 is refused.
+    /// The site value of `docs/forest.h`: 50 bytes are of kind 52, 51 of kind 53, and another length is refused.
     pub fn from_bytes(bytes: &[u8]) -> Result<Site, Refusal> {
-        let b: &[u8; 50] = bytes.try_into().map_err(|_| Rule::Length.at(0))?;
+        let wrong_length = Rule::Length.at(0);
+        let (b, rest) = bytes.split_first_chunk::<50>().ok_or(wrong_length)?;
+        let (kind, temperature) = match *rest {
+            [] => (Kind::Tag52, EIGHT_DEGREES),
+            [temperature] => (Kind::Tag53, temperature),
+            _ => return Err(wrong_length),
+        };
         let two = |at: usize| u16::from_be_bytes([b[at], b[at + 1]]);
         let entry = |at: usize| Entry {
             species: b[at],
@@ -45,6 +85,7 @@ impl Site {
             growth: two(at + 2),
         };
         Ok(Site {
+            kind,
             name: [b[0], b[1], b[2], b[3], b[4], b[5], b[6], b[7]],
             name_length: b[8],
             parent_material: b[9],
@@ -64,6 +105,7 @@ impl Site {
             leachate_nitrogen: two(44),
             sulphur: two(46),
             nitrogen: two(48),
+            temperature,
         })
     }
 
@@ -78,7 +120,8 @@ impl Site {
 
 /// Rules 7 to 10 over a whole site value, in the order of the tags.
 pub fn check(site: &Site) -> Result<(), Refusal> {
-    (0x01..=0x0F).try_for_each(|tag| check_field(site, tag).map_err(|rule| rule.at(0)))
+    let mut tags = site.kind.tags();
+    tags.try_for_each(|tag| check_field(site, tag).map_err(|rule| rule.at(0)))
 }
 
 /// Rules 7 to 10 over the value of one tag.
@@ -103,6 +146,7 @@ pub(crate) fn check_field(site: &Site, tag: u8) -> Result<(), Rule> {
         0x0C => (1..=10000).contains(&site.gibbsite),
         0x0D => (1..=5000).contains(&site.hydrogen_ceiling),
         0x0E => (1..=1000).contains(&site.leachate_nitrogen),
+        0x10 => site.temperature <= 25,
         _ => true,
     };
     demand(in_range, Rule::Range)

@@ -1,6 +1,7 @@
 use crate::level::{search, Found};
 use crate::refusal::Refusal;
 use crate::site::{check, Site};
+use crate::temperature::temperature_factor;
 
 /// Contents by species in hundredths of eq per tonne: Ca, Mg, K, N.
 const CONTENTS: [[i64; 4]; 9] = [
@@ -74,7 +75,7 @@ fn weathering(site: &Site) -> i64 {
         2 | 3 => [2, 4, 4, 6, 6][texture],
         _ => 20,
     };
-    (500 * class - 250) * i64::from(site.root_depth) / 100
+    (500 * class - 250) * i64::from(site.root_depth) * temperature_factor(site) / 100_000
 }
 
 /// d, the denitrified part, per mille: by drainage, and 800 for organic parent material at every drainage.

@@ -1,6 +1,6 @@
 //! The verdict against demand 3's balances, each u, i and h tried one by one.
 
-use forest::{aluminium, hydrogen, judge, Entry, Site, Terms, Verdict};
+use forest::{aluminium, hydrogen, judge, Entry, Kind, Site, Terms, Verdict};
 
 fn allowed(site: &Site, terms: &Terms, h: i64) -> bool {
     h <= i64::from(site.hydrogen_ceiling) && aluminium(site, h) <= terms.aluminium_limit
@@ -58,6 +58,7 @@ fn small_site(random: &mut Random) -> Site {
         growth: random.number(0, 150),
     };
     Site {
+        kind: [Kind::Tag52, Kind::Tag53][usize::from(random.number(0, 1))],
         name: *b"SMALL\0\0\0",
         name_length: 5,
         parent_material: random.number(0, 4) as u8,
@@ -77,6 +78,7 @@ fn small_site(random: &mut Random) -> Site {
         leachate_nitrogen: random.number(1, 5),
         sulphur: 0,
         nitrogen: 0,
+        temperature: random.number(0, 25) as u8,
     }
 }
 

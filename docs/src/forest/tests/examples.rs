@@ -4,7 +4,7 @@ mod common;
 
 use common::{a1, a1_with, bytes};
 use forest::{
-    aluminium, judge, loads, read_record, texture_class, Entry, Loads, Site, Terms, Verdict,
+    aluminium, judge, loads, read_record, texture_class, Entry, Kind, Loads, Site, Terms, Verdict,
 };
 use std::io::Write;
 use std::process::{Command, Stdio};
@@ -51,6 +51,7 @@ fn a1_is_read_value_by_value() {
         growth: 2000,
     };
     let expected = Site {
+        kind: Kind::Tag52,
         name: *b"A1\0\0\0\0\0\0",
         name_length: 2,
         parent_material: 1,
@@ -70,6 +71,7 @@ fn a1_is_read_value_by_value() {
         leachate_nitrogen: 20,
         sulphur: 500,
         nitrogen: 700,
+        temperature: 13,
     };
     assert_eq!(a1_site(), expected);
 }

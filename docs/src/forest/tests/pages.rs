@@ -127,6 +127,10 @@ fn the_widest_numbers() {
     // W 19500, w 16575, A 323625, h 2209 (al 323376, hydrogen 6627), L 30000, e 200.
     let line = "ZZZZZZZZ  354503     500 1773015  150500 0      0      0 within \n";
     assert_eq!(pages(&file), [HEADER, line].concat());
+    // At 20 °C W 32955, w 28011, A 495165, h 2546 (al 495104, hydrogen 7638).
+    let warm = [&[0x53, 0, file[2] + 4], &file[3..], &[0x10, 0, 1, 25]].concat();
+    let line = "ZZZZZZZZ  540697     500 2703985  150500 0      0      0 within \n";
+    assert_eq!(pages(&warm), [HEADER, line].concat());
 }
 
 #[test]
@@ -203,7 +207,7 @@ fn a_fault_on_a_later_page_leaves_the_buffer() {
     assert_eq!(first_page.len(), 4720);
     let after = |more: &[u8]| refused(&[&first_page, more].concat(), 40_000);
     assert_eq!(after(&a1()[..77]), (2, 4720));
-    assert_eq!(after(&bytes("53 0000")), (3, 4720));
+    assert_eq!(after(&bytes("54 0000")), (3, 4720));
     assert_eq!(after(&bytes("52 0001 01")), (5, 4723));
     assert_eq!(after(&bytes("52 0000")), (6, 4723));
     assert_eq!(after(&a1_with(&["0F 0002 01F4"])), (7, 4720 + 71));

@@ -1,9 +1,9 @@
-//! Each refusal of document 01 with its offset; every one leaves the buffer as it was.
+//! Each refusal of document 01 with its offset, and those of E5's field 10; every one leaves the buffer as it was.
 
 mod common;
 
-use common::{a1, a1_with, bytes, record, A1_FIELDS};
-use forest::{Refusal, Site};
+use common::{a1, a1_with, bytes, outer, record, A1_FIELDS};
+use forest::{Kind, Refusal, Site};
 
 /// The refusal of a file, as its number and offset. The pages give the same, and the single-record read for a file of one
 /// record.
@@ -30,7 +30,10 @@ fn outer_field() {
     assert_eq!(refused(&bytes("52 00")), (2, 0));
     assert_eq!(refused(&bytes("00")), (2, 0));
     assert_eq!(refused(&a1()[..77]), (2, 0));
-    assert_eq!(refused(&bytes("53 0100")), (3, 0));
+    assert_eq!(refused(&bytes("51 0100")), (3, 0));
+    assert_eq!(refused(&bytes("54 0100")), (3, 0));
+    assert_eq!(refused(&bytes("53 00")), (2, 0));
+    assert_eq!(refused(&bytes("53 0100")), (2, 0));
     let mut above_255 = bytes("52 0100");
     above_255.resize(400, 0);
     assert_eq!(refused(&above_255), (2, 0));
@@ -43,12 +46,15 @@ fn outer_field_of_a_second_record() {
         let refusal = forest::list(&file, &mut [0; 200]).unwrap_err();
         (refusal.rule as u8, refusal.offset)
     };
-    assert_eq!(refused("53"), (2, 78));
-    assert_eq!(refused("53 0000"), (3, 78));
-    assert_eq!(refused("52 0001"), (2, 78));
-    assert_eq!(refused("52 0000"), (6, 81));
-    assert_eq!(refused("52 0001 01"), (5, 81));
-    assert_eq!(refused("52 0006 01 0003 4A4A40"), (8, 81));
+    assert_eq!(refused("54"), (2, 78));
+    assert_eq!(refused("51 0000"), (3, 78));
+    assert_eq!(refused("54 0000"), (3, 78));
+    for tag in ["52", "53"] {
+        assert_eq!(refused(&format!("{tag} 0001")), (2, 78));
+        assert_eq!(refused(&format!("{tag} 0000")), (6, 81));
+        assert_eq!(refused(&format!("{tag} 0001 01")), (5, 81));
+        assert_eq!(refused(&format!("{tag} 0006 01 0003 4A4A40")), (8, 81));
+    }
 }
 
 #[test]
@@ -108,6 +114,111 @@ fn bytes_after_the_last_field() {
     assert_eq!(refused(&after("0F")), (6, 78));
     assert_eq!(refused(&after("00 00")), (6, 78));
     assert_eq!(refused(&after("10 0001 00")), (6, 78));
+    assert_eq!(refused(&after("10 0001 0D")), (6, 78));
+    let after = |more| ending(&["10 0001 0D", more]);
+    assert_eq!(refused(&after("10")), (6, 82));
+    assert_eq!(refused(&after("00 00")), (6, 82));
+    assert_eq!(refused(&after("10 0001 0D")), (6, 82));
+    assert_eq!(refused(&after("11 0001 00")), (6, 82));
+    // Up to the greatest length of an outer field.
+    assert_eq!(refused(&after(&"10".repeat(255 - 79))), (6, 82));
+}
+
+/// A record of kind 53 with A1's fields, and these after them.
+fn ending(more: &[&str]) -> Vec<u8> {
+    outer(0x53, &[&A1_FIELDS[..], more].concat())
+}
+
+#[test]
+fn another_outer_tag() {
+    let good = ending(&["10 0001 0D"]);
+    assert_eq!(forest::list(&good, &mut [0; 86]), Ok(86));
+    for tag in (0x00..=0xFF).filter(|tag| ![0x52, 0x53].contains(tag)) {
+        let mut record = good.clone();
+        record[0] = tag;
+        assert_eq!(refused(&record), (3, 0));
+    }
+    // With the other of both tags, the field is missing or one too many.
+    assert_eq!(
+        refused(&outer(0x52, &[&A1_FIELDS[..], &["10 0001 0D"]].concat())),
+        (6, 78)
+    );
+    assert_eq!(refused(&outer(0x53, &A1_FIELDS)), (6, 78));
+}
+
+#[test]
+fn no_field_10() {
+    assert_eq!(refused(&ending(&[])), (6, 78));
+    assert_eq!(refused(&outer(0x53, &A1_FIELDS[..14])), (6, 71));
+    // The record's end, though the file goes on with what could be the field.
+    for next in [&a1()[..], &bytes("10 0001 0D")] {
+        let refusal = forest::list(&[ending(&[]), next.to_vec()].concat(), &mut [0; 200]);
+        let Refusal { rule, offset } = refusal.unwrap_err();
+        assert_eq!((rule as u8, offset), (6, 78));
+    }
+    assert_eq!(refused(&ending(&["0F 0004 01F402BC"])), (6, 78));
+    assert_eq!(refused(&ending(&["11 0001 0D"])), (6, 78));
+    // Under 3 bytes come before the tag.
+    assert_eq!(refused(&ending(&["11"])), (5, 78));
+    assert_eq!(refused(&ending(&["11 00"])), (5, 78));
+}
+
+#[test]
+fn a_bad_field_10() {
+    assert_eq!(refused(&ending(&["10"])), (5, 78));
+    assert_eq!(refused(&ending(&["10 00"])), (5, 78));
+    assert_eq!(refused(&ending(&["10 0001"])), (5, 78));
+    assert_eq!(refused(&ending(&["10 0003 0D00"])), (5, 78));
+    assert_eq!(refused(&ending(&["10 0101 0D"])), (5, 78));
+    assert_eq!(refused(&ending(&["10 0000"])), (7, 78));
+    assert_eq!(refused(&ending(&["10 0002 000D"])), (7, 78));
+    assert_eq!(refused(&ending(&["10 0002 1A1A"])), (7, 78));
+    assert_eq!(refused(&ending(&["10 0001 1A"])), (8, 78));
+    assert_eq!(refused(&ending(&["10 0001 FB"])), (8, 78));
+    assert_eq!(refused(&ending(&["10 0001 FF"])), (8, 78));
+    // Its own faults come before bytes after it, and those of a field before it first.
+    assert_eq!(refused(&ending(&["10 0001 1A 00"])), (8, 78));
+    let fields = [
+        &A1_FIELDS[..13],
+        &["0E 0002 0000", A1_FIELDS[14], "10 0001 1A"],
+    ]
+    .concat();
+    assert_eq!(refused(&outer(0x53, &fields)), (8, 66));
+}
+
+#[test]
+fn a_fault_in_a_mixed_file() {
+    let mild = ending(&["10 0001 0D"]);
+    let refused = |last: &[u8]| {
+        let file = [&mild, &a1(), &mild, last].concat();
+        let refusal = forest::list(&file, &mut [0; 400]).unwrap_err();
+        (refusal.rule as u8, refusal.offset)
+    };
+    // 82 + 78 + 82 bytes.
+    assert_eq!(refused(&mild[..81]), (2, 242));
+    assert_eq!(refused(&outer(0x54, &A1_FIELDS)), (3, 242));
+    assert_eq!(refused(&ending(&["10 0001"])), (5, 242 + 78));
+    assert_eq!(refused(&ending(&[])), (6, 242 + 78));
+    assert_eq!(refused(&ending(&["10 0001 0D 00"])), (6, 242 + 82));
+    assert_eq!(
+        refused(&record(&[&A1_FIELDS[..], &["10 0001 0D"]].concat())),
+        (6, 242 + 78)
+    );
+    assert_eq!(refused(&ending(&["10 0000"])), (7, 242 + 78));
+    assert_eq!(refused(&ending(&["10 0001 1A"])), (8, 242 + 78));
+    // A single record of kind 53 has nothing after it either.
+    let refusal = forest::read_record(&[&mild[..], &a1()].concat()).unwrap_err();
+    assert_eq!((refusal.rule as u8, refusal.offset), (4, 82));
+}
+
+#[test]
+fn five_hundred_records_of_both_kinds() {
+    let pair = [a1(), ending(&["10 0001 0D"])].concat();
+    let mut out = [0; 20_000];
+    let full = pair.repeat(250);
+    assert_eq!(forest::list(&full, &mut out), Ok(51 + 500 * 35));
+    let refusal = forest::list(&[&full[..], &[0x53]].concat(), &mut out).unwrap_err();
+    assert_eq!((refusal.rule as u8, refusal.offset), (4, 250 * (78 + 82)));
 }
 
 #[test]
@@ -206,8 +317,10 @@ fn values_at_both_ends_of_their_range() {
         "0E 0002 03E8",
         "0F 0004 FFFFFFFF",
     ]);
-    for record in [least, greatest] {
-        let mut out = [0; 96];
+    assert_eq!(greatest.len(), 96);
+    let greatest_53 = [&[0x53, 0, 97], &greatest[3..], &[0x10, 0, 1, 25]].concat();
+    for record in [least, greatest, greatest_53] {
+        let mut out = [0; 100];
         let length = forest::rewrite(&record, &mut out).unwrap();
         assert_eq!(out[..length], record);
     }
@@ -296,6 +409,38 @@ fn site_values_are_checked_in_tag_order_at_offset_0() {
     assert_eq!(refused(&site), 7);
     site.name_length = 0;
     assert_eq!(refused(&site), 7);
+}
+
+#[test]
+fn the_temperature_of_a_site_value_is_checked_last() {
+    let good = Site {
+        kind: Kind::Tag53,
+        temperature: 25,
+        ..forest::read_record(&a1()).unwrap()
+    };
+    assert_eq!(forest::check(&good), Ok(()));
+    let refused = |site: &Site| {
+        let Refusal { rule, offset } = forest::check(site).unwrap_err();
+        let mut out = [0xEE; 100];
+        assert_eq!(
+            forest::write_record(site, &mut out),
+            Err(Refusal { rule, offset })
+        );
+        assert_eq!(out, [0xEE; 100]);
+        assert_eq!(forest::loads(site), Err(Refusal { rule, offset }));
+        assert_eq!(forest::level(site), Err(Refusal { rule, offset }));
+        assert_eq!(forest::judge(site), Err(Refusal { rule, offset }));
+        (rule as u8, offset)
+    };
+    for temperature in 26..=255 {
+        let mut site = Site {
+            temperature,
+            ..good
+        };
+        assert_eq!(refused(&site), (8, 0));
+        site.stand[0].share = 99;
+        assert_eq!(refused(&site), (10, 0));
+    }
 }
 
 #[test]

@@ -3,7 +3,7 @@
 use compare::interface::LIST;
 use compare::random::Random;
 use compare::{files, sites};
-use forest::Terms;
+use forest::{Kind, Terms};
 use std::hint::black_box;
 use std::time::Instant;
 
@@ -24,7 +24,7 @@ fn main() {
     );
     assert!(ours == theirs, "the listings differ");
     println!(
-        "{RECORDS} records of four entries, {} bytes, {hydrogen_bound} hydrogen-bound, {} aluminium-bound",
+        "{RECORDS} records of kind 52 with four entries, {} bytes, {hydrogen_bound} hydrogen-bound, {} aluminium-bound",
         file.len(),
         RECORDS - hydrogen_bound
     );
@@ -82,7 +82,7 @@ fn full_file() -> (Vec<u8>, usize) {
     for _ in 0..RECORDS {
         let wanted = random.one_in(2);
         let site = loop {
-            let site = sites::good_with_entries(&mut random, 4);
+            let site = sites::good_of(&mut random, Kind::Tag52, 4);
             if (Terms::of(&site).level == i64::from(site.hydrogen_ceiling)) == wanted {
                 break site;
             }

@@ -31,12 +31,16 @@ pub fn bytes(hex: &str) -> Vec<u8> {
         .collect()
 }
 
-/// An outer field around the fields given.
-pub fn record(fields: &[&str]) -> Vec<u8> {
+/// An outer field with a tag, around the fields given.
+pub fn outer(tag: u8, fields: &[&str]) -> Vec<u8> {
     let value = bytes(&fields.concat());
-    let mut record = vec![0x52, 0, value.len() as u8];
+    let mut record = vec![tag, 0, value.len() as u8];
     record.extend(value);
     record
+}
+
+pub fn record(fields: &[&str]) -> Vec<u8> {
+    outer(0x52, fields)
 }
 
 /// A1 with some of its fields replaced: those with the tags of the given ones.

@@ -1,5 +1,6 @@
 //! One answer held against the other.
 
+use crate::kinds::By;
 use crate::tally::{Source, Tally, PAGE};
 use compare::interface::{Call, CHECK, JUDGE, LEVEL, LIST, LOADS, PAGES, REPORT, REWRITE, SAMPLE};
 use compare::random::Random;
@@ -25,6 +26,7 @@ impl Comparison {
     pub fn file(&mut self, random: &mut Random, file: &[u8]) {
         let mut room = vec![0; ROOM];
         let full = (LIST.reference)([file], &mut room);
+        self.tally.kinds.records(By::List, file, full);
         for length in lengths(random, full) {
             let result = self.call(random, &LIST, [file], length);
             self.tally.answer(Source::List, result);
@@ -53,7 +55,8 @@ impl Comparison {
 
     /// A single record through `forest_rewrite`.
     pub fn record(&mut self, random: &mut Random, record: &[u8]) {
-        let full = (REWRITE.reference)([record], &mut [0; 96]);
+        let full = (REWRITE.reference)([record], &mut [0; 100]);
+        self.tally.kinds.records(By::Rewrite, record, full);
         for length in lengths(random, full) {
             let result = self.call(random, &REWRITE, [record], length);
             self.tally.answer(Source::Rewrite, result);
@@ -63,15 +66,15 @@ impl Comparison {
     /// A site value through `forest_check`, `forest_loads`, `forest_level` and `forest_judge`.
     pub fn site(&mut self, random: &mut Random, value: &[u8]) {
         let result = self.call(random, &CHECK, [value], 0);
-        self.tally.answer(Source::Check, result);
+        self.tally.value(Source::Check, value, result);
 
         let length = random.pick(&[4, 4, 4, 5, 8, 3, 1, 0]);
         let result = self.call(random, &LOADS, [value], length);
-        self.tally.answer(Source::Loads, result);
+        self.tally.value(Source::Loads, value, result);
 
         let length = random.pick(&[2, 2, 2, 3, 8, 1, 1, 0]);
         let result = self.call(random, &LEVEL, [value], length);
-        self.tally.answer(Source::Level, result);
+        self.tally.value(Source::Level, value, result);
         let mut numbers = [0; 2];
         if (LEVEL.reference)([value], &mut numbers) == 2 {
             self.tally.compared(numbers[1] as usize);
@@ -79,10 +82,10 @@ impl Comparison {
 
         let length = random.pick(&[8, 8, 8, 9, 12, 7, 4, 0]);
         let result = self.call(random, &JUDGE, [value], length);
-        self.tally.answer(Source::Judge, result);
+        self.tally.value(Source::Judge, value, result);
         let mut numbers = [0; 8];
         if (JUDGE.reference)([value], &mut numbers) == 8 {
-            let site = Site::from_bytes(value).expect("50 bytes");
+            let site = Site::from_bytes(value).expect("50 or 51 bytes");
             self.tally.judged(&site, &numbers);
         }
     }
@@ -93,7 +96,7 @@ impl Comparison {
         let result = self.call(random, &SAMPLE, [value, months], length);
         let mut numbers = [0; 10];
         let result_with_room = (SAMPLE.reference)([value, months], &mut numbers);
-        self.tally.answer(Source::Sample, result);
+        self.tally.value(Source::Sample, value, result);
         self.tally
             .sampled(value, months, result_with_room, &numbers);
     }

@@ -1,4 +1,4 @@
-//! The program where reading or printing does not go as usual. What it must print is taken from document 01.
+//! The program where reading or printing does not go as usual. What it must print is taken from documents 01 and 02.
 
 use crate::comparison::Comparison;
 use std::fs::File;
@@ -22,6 +22,12 @@ A1 735 205 1021 249 2 221 451 over
 B2 735 205 1021 249 0 0 0 within
 ";
 
+/// A1 in kind 53 at 5 °C below zero, where W is 67 and M 409, and B2 in kind 52.
+const LISTING_OF_BOTH_KINDS: &str = "id maxS minN maxN nutN region acidEx nutEx verdict
+A1 595 205 866 249 2 368 451 over
+B2 735 205 1021 249 0 0 0 within
+";
+
 fn bytes(hex: &str) -> Vec<u8> {
     let digits: Vec<u32> = hex.chars().filter_map(|c| c.to_digit(16)).collect();
     digits.chunks(2).map(|c| (c[0] * 16 + c[1]) as u8).collect()
@@ -32,10 +38,19 @@ fn record(name: &str, pair: &str) -> Vec<u8> {
     bytes(&format!("52004B 010002 {name} {SITE} 0F0004 {pair}"))
 }
 
+/// Such a record in kind 53, with its temperature byte.
+fn record_53(name: &str, pair: &str, temperature: &str) -> Vec<u8> {
+    bytes(&format!(
+        "53004F 010002 {name} {SITE} 0F0004 {pair} 100001 {temperature}"
+    ))
+}
+
 pub fn compare(comparison: &mut Comparison, path: &str) {
     let a1 = record("4131", "01F402BC");
     let b2 = record("4232", "00C800F0");
-    assert_eq!((a1.len(), b2.len()), (78, 78));
+    let cold = record_53("4131", "01F402BC", "00");
+    let hot = record_53("4131", "01F402BC", "1A");
+    assert_eq!((a1.len(), b2.len(), cold.len()), (78, 78, 82));
     let both = [&a1[..], &b2].concat();
     let mut expect = |name: &str, (printed, ended): (Vec<u8>, bool), expected: &str| {
         comparison.expect(name, &printed, expected.as_bytes(), ended)
@@ -58,6 +73,18 @@ pub fn compare(comparison: &mut Comparison, path: &str) {
         "two records at once",
         drip(path, &both, both.len()),
         LISTING,
+    );
+    let both_kinds = [&cold[..], &b2].concat();
+    expect(
+        "both kinds, byte by byte",
+        drip(path, &both_kinds, 1),
+        LISTING_OF_BOTH_KINDS,
+    );
+    let too_hot = [&cold[..], &hot].concat();
+    expect(
+        "a temperature of 21 °C",
+        drip(path, &too_hot, too_hot.len()),
+        "refused 8 at 160\n",
     );
     let zeros = File::open("/dev/zero").expect("/dev/zero");
     expect("endless zeros", run(path, zeros.into()), "refused 3 at 0\n");

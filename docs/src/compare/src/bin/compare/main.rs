@@ -2,6 +2,7 @@
 
 mod comparison;
 mod edges;
+mod kinds;
 mod sampled;
 mod tally;
 

@@ -53,7 +53,7 @@ pub struct Sampled {
 }
 
 impl Sampled {
-    /// A site value of 50 bytes with its months: the result in a buffer with room, and the numbers there.
+    /// A site value of 50 or 51 bytes with its months: the result in a buffer with room, and the numbers there.
     pub fn count(&mut self, site: &Site, months: &[u8], result: u64, numbers: &[u64; 10]) {
         let (rule, offset) = (result >> 32, result as u32 as usize);
         let bytes = months;

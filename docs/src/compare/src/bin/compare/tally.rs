@@ -1,5 +1,6 @@
 //! How often each kind of answer, site and file occurred.
 
+use crate::kinds::Kinds;
 use crate::sampled::Sampled;
 use compare::files::PAGE_BORDERS;
 use forest::{Site, Terms};
@@ -58,7 +59,7 @@ const COMPARED: [usize; 10] = [1, 6, 7, 8, 9, 10, 11, 12, 13, 14];
 /// The bytes of a full page.
 pub const PAGE: usize = 60 * 65;
 /// The bytes of a full page's records at most: a fault from here on is one after a page.
-const PAGE_RECORDS: usize = 59 * 96;
+const PAGE_RECORDS: usize = 59 * 100;
 
 #[derive(Default)]
 pub struct Tally {
@@ -87,11 +88,19 @@ pub struct Tally {
     /// By how many levels were compared.
     compared: [u64; 15],
     sampled: Sampled,
+    pub kinds: Kinds,
 }
 
 impl Tally {
     pub fn answer(&mut self, source: Source, result: u64) {
         self.answers[source as usize][(result >> 32) as usize] += 1;
+    }
+
+    /// The answer of one of the calls from check to sample to a site value.
+    pub fn value(&mut self, source: Source, value: &[u8], result: u64) {
+        self.answer(source, result);
+        let call = source as usize - Source::Check as usize;
+        self.kinds.value(call, value, result);
     }
 
     /// What is to be printed for a file: a listing or the line of a refusal.
@@ -166,6 +175,7 @@ impl Tally {
         } else {
             self.aluminium_bound += 1;
         }
+        self.kinds.judged(site);
     }
 
     /// A site at which so many levels were compared.
@@ -203,25 +213,18 @@ impl Tally {
             println!();
         }
 
-        print!("\n{:<24}", "");
-        let by = ["judge", "lines", "pages", "sample"];
-        by.iter().for_each(|name| print!("{name:>10}"));
-        println!();
-        for region in 0..5 {
-            print!("{:<24}", format!("region {region}"));
-            absent += row(&self.regions.map(|counts| counts[region]));
-        }
-        for (name, counts) in [
-            ("within", self.within),
-            ("over", self.over),
-            ("over by nutrient alone", self.over_by_nutrient_alone),
-        ] {
-            print!("{name:<24}");
-            absent += row(&counts);
-        }
+        let named = |name: &str| name.to_string();
+        let by_region = |region| self.regions.map(|counts| counts[region]);
+        let regions = (0..5).map(|region| (format!("region {region}"), by_region(region)));
+        let marks = [
+            (named("within"), self.within),
+            (named("over"), self.over),
+            (named("over by nutrient alone"), self.over_by_nutrient_alone),
+        ];
+        let rows = regions.chain(marks).collect();
+        absent += table(["judge", "lines", "pages", "sample"], rows);
 
         let mut kinds: Vec<(String, u64)> = Vec::new();
-        let named = |name: &str| name.to_string();
         kinds.extend(
             PARENT_MATERIALS
                 .map(named)
@@ -235,7 +238,14 @@ impl Tally {
         kinds.extend(SPECIES.map(named).into_iter().zip(self.species));
         kinds.push((named("hydrogen-bound"), self.hydrogen_bound));
         kinds.push((named("aluminium-bound"), self.aluminium_bound));
+        kinds.extend(self.kinds.judged_rows());
         absent += column("judge", kinds);
+
+        absent += table(["rewrite", "list", "judge"], self.kinds.accepted_rows());
+        absent += column("list", self.kinds.files());
+        absent += table(["rewrite", "list"], self.kinds.refusal_rows());
+        let calls = ["check", "loads", "level", "judge", "sample"];
+        absent += table(calls, self.kinds.value_rows());
 
         let compared =
             COMPARED.map(|levels| (format!("compared: {levels}"), self.compared[levels]));
@@ -267,11 +277,19 @@ fn numbered<'a>(name: &'a str, counts: &'a [u64]) -> impl Iterator<Item = (Strin
 
 /// Prints a column of kinds that are all due; returns how many never occurred.
 fn column(title: &str, kinds: Vec<(String, u64)>) -> u64 {
-    println!("\n{:<24}{title:>10}", "");
+    let rows = kinds.into_iter().map(|(name, count)| (name, [count]));
+    table([title], rows.collect())
+}
+
+/// Prints columns of kinds that are all due; returns how many never occurred.
+fn table<const N: usize>(titles: [&str; N], rows: Vec<(String, [u64; N])>) -> u64 {
+    print!("\n{:<24}", "");
+    titles.iter().for_each(|title| print!("{title:>10}"));
+    println!();
     let mut absent = 0;
-    for (name, count) in kinds {
+    for (name, counts) in rows {
         print!("{name:<24}");
-        absent += row(&[count]);
+        absent += row(&counts);
     }
     absent
 }
