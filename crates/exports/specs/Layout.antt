@@ -8,7 +8,7 @@ use Rattle.numbers.specs.TwoBytes.{word_at}
 use Rattle.site.specs.Bytes.{name_in, entry_at}
 use Rattle.site.specs.declared.RecordKind.{RecordKind}
 use Rattle.site.specs.declared.RecordKind.TheVariants.{Tag52, Tag53}
-use Rattle.site.specs.Kinds.{usual_temperature}
+use Rattle.site.specs.Kinds.{reference_temperature}
 use Rattle.site.specs.declared.Site.{Site}
 use Rattle.site.specs.declared.Rule.TheVariants.{BadLength}
 use Rattle.output.specs.Output.{Written, output_rule, write_answer}
@@ -40,7 +40,7 @@ site_as k b = record {
   leachate = word_at b 44;
   sulphur = word_at b 46;
   nitrogen = word_at b 48;
-  temperature = get_or b 50 usual_temperature;
+  temperature = get_or b 50 reference_temperature;
 }
 
 -- the length says the kind

@@ -3,7 +3,7 @@ ghost use Rattle.std.specs.Prelude.{◌≡◌};
 ghost use Rattle.exports.specs.Layout.{site_as};
 
 use numbers::{byte, word_at};
-use site::{Name, RecordKind, Site, Stand, USUAL_TEMPERATURE, entry_at, name_in};
+use site::{Name, RecordKind, Site, Stand, REFERENCE_TEMPERATURE, entry_at, name_in};
 
 #[tactic(auto, unfolding(crate::specs::Layout::site_as))]
 pub fn site_as(kind: RecordKind, b: &[u8]) -> Site
@@ -39,6 +39,6 @@ pub fn site_as(kind: RecordKind, b: &[u8]) -> Site
         leachate: word_at(b, 44),
         sulphur: word_at(b, 46),
         nitrogen: word_at(b, 48),
-        temperature: b.get(50).copied().unwrap_or(USUAL_TEMPERATURE),
+        temperature: b.get(50).copied().unwrap_or(REFERENCE_TEMPERATURE),
     }
 }

@@ -1,4 +1,4 @@
--- A site with zeros past its name and its entries is the same site.
+-- A site with zeros past its name and its entries, and with the temperature that counts, is the same site.
 use mathlib.Core.Path.{◌≡◌, refl, sym, ◌∙◌}
 use mathlib.Core.List.{List, ◌++◌}
 use Prim.Native.Nat.{ℕ, ◌≤◌}
@@ -8,7 +8,7 @@ use lib.Seq.{take_at, take-take, length-take-le}
 use Rattle.site.specs.declared.Site.{Site}
 use Rattle.site.specs.declared.RecordKind.{RecordKind}
 use Rattle.site.specs.declared.RecordKind.TheVariants.{Tag52, Tag53}
-use Rattle.site.specs.Kinds.{temperature_of}
+use Rattle.site.specs.Kinds.{counted_temperature}
 use Rattle.std.specs.Prelude.{Ok}
 use Rattle.site.specs.Bounds.{no_entry}
 use Rattle.site.specs.Check.{site_rule}
@@ -21,8 +21,8 @@ padded_front : {A : Type 0} (l : List A) (n m : ℕ) (d : A) → length l ≡ m 
 padded_front l n m d e h = sym (take-take n m (take n l ++ replicate m d) h ∙ take_at (take n l) (replicate m d) n (length-take-le n l (omega arith)))
 
 -- of the temperature that counts the temperature that counts is the same
-counted : (s : Site) (k : RecordKind) → s.kind ≡ k → temperature_of s ≡ temperature_of (clean s)
-unfolding temperature_of clean
+counted : (s : Site) (k : RecordKind) → s.kind ≡ k → counted_temperature s ≡ counted_temperature (clean s)
+unfolding counted_temperature clean
 counted s Tag52 e = rw e
 counted s Tag53 e = rw e
 

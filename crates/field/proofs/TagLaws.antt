@@ -131,7 +131,7 @@ module _ (k : RecordKind) where
   name_again s z c e x =
       let name = take s.name.len s.name.bytes in
       let l = name_long s z c in
-      let k = name_counts s z c in
+      let few = name_counts s z c in
       let n8 : length name ≤ 8 = omega arith in
       rw (parts_permitted 1 (length name) (omega arith) n8 (omega arith), take-tabulate 8 name 0 n8) e
 
@@ -141,7 +141,7 @@ module _ (k : RecordKind) where
       let es = take s.stand.count s.stand.entries in
       let b = bytes_long s z c in
       let l = stand_long s z c in
-      let k = stand_counts s z c in
+      let few = stand_counts s z c in
       let n4 : length es ≤ 4 = omega arith in
       let t : take s.stand.count (tabulate 4 (λ i. get_or es i no_entry)) ≡ es = rw l at (take-tabulate 4 es no_entry n4) in
       rw (b, parts_permitted 7 (4 * s.stand.count) (omega arith) (omega arith) (omega arith), quarter, stand_back 4 es, t) e
@@ -163,9 +163,9 @@ module _ (k : RecordKind) where
   -- ---- all fields: a line for each tag
 
   -- 01 to 0F, and what follows them
-  with_base : (ts : List ℕ) → All TagLaws ts → All TagLaws (1 ∷ 2 ∷ 3 ∷ 4 ∷ 5 ∷ 6 ∷ 7 ∷ 8 ∷ 9 ∷ 10 ∷ 11 ∷ 12 ∷ 13 ∷ 14 ∷ 15 ∷ ts)
+  with_first_fifteen : (ts : List ℕ) → All TagLaws ts → All TagLaws (1 ∷ 2 ∷ 3 ∷ 4 ∷ 5 ∷ 6 ∷ 7 ∷ 8 ∷ 9 ∷ 10 ∷ 11 ∷ 12 ∷ 13 ∷ 14 ∷ 15 ∷ ts)
   unfolding value value_rule store count_rule item_count Tidy length_permitted
-  with_base ts more =
+  with_first_fifteen ts more =
       name_tag
       ▸ one_tag 2 (byte_item (site_kind k) 2 (λ s. s.parent) (between parent_range) (one-length 2 1 refl refl refl) (λ s v. (refl, refl, refl)) (λ u v x h. rw (ne_eqb u 2 h))) (λ s. (refl, tt))
       ▸ one_tag 3 (pair_item (site_kind k) 3 (λ s. (s.clay, s.sand)) (λ b. ranged (leb (b.0 + b.1) 100)) (one-length 3 2 refl refl refl) (λ s v. (refl, refl, refl)) (λ u v x h. rw (ne_eqb u 3 h))) (λ s. (refl, tt))
@@ -189,5 +189,5 @@ module _ (k : RecordKind) where
       one_tag 16 (byte_item (site_kind k) 16 (λ s. s.temperature) (between temperature_range) (one-length 16 1 refl refl refl) (λ s v. (refl, refl, refl)) (λ u v x h. rw (ne_eqb u 16 h))) (λ s. (refl, tt))
 
 pub tags : (k : RecordKind) → All (TagLaws k) (due k)
-tags Tag52 = with_base Tag52 [] none
-tags Tag53 = with_base Tag53 (16 ∷ []) (temperature_tag Tag53 ▸ none)
+tags Tag52 = with_first_fifteen Tag52 [] none
+tags Tag53 = with_first_fifteen Tag53 (16 ∷ []) (temperature_tag Tag53 ▸ none)

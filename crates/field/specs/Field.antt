@@ -8,7 +8,7 @@ use Rattle.site.specs.Bytes.{tabulate, name_in, entry_at}
 use Rattle.site.specs.Choice.{pick}
 use Rattle.site.specs.declared.RecordKind.{RecordKind}
 use Rattle.site.specs.declared.RecordKind.TheVariants.{Tag52}
-use Rattle.site.specs.Kinds.{kind_tag, due, usual_temperature}
+use Rattle.site.specs.Kinds.{kind_tag, due, reference_temperature}
 use Rattle.site.specs.Values.{length_permitted, value_rule}
 use Rattle.field.specs.Kind.{Kind}
 
@@ -62,7 +62,7 @@ blank_site = record {
   leachate = 0;
   sulphur = 0;
   nitrogen = 0;
-  temperature = usual_temperature;
+  temperature = reference_temperature;
 }
 
 -- and of every kind

@@ -2,7 +2,7 @@
 ghost use Rattle.std.specs.Prelude.{◌≡◌};
 ghost use Rattle.field.specs.Field.{blank_of};
 
-use site::{Entry, Name, RecordKind, Site, Stand, USUAL_TEMPERATURE};
+use site::{Entry, Name, REFERENCE_TEMPERATURE, RecordKind, Site, Stand};
 
 #[tactic(auto, unfolding(crate::specs::Field::blank_of, crate::specs::Field::blank_site))]
 pub fn blank(kind: RecordKind) -> Site
@@ -38,6 +38,6 @@ pub fn blank(kind: RecordKind) -> Site
         leachate: 0,
         sulphur: 0,
         nitrogen: 0,
-        temperature: USUAL_TEMPERATURE,
+        temperature: REFERENCE_TEMPERATURE,
     }
 }

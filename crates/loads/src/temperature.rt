@@ -1,7 +1,9 @@
 // t, by which weathering depends on temperature.
 ghost use Rattle.std.specs.Prelude.{◌≡◌, ◌≤◌};
 ghost use Rattle.loads.specs.MostTerms.{most_factor};
-ghost use Rattle.loads.specs.Temperature.{temperature_factor};
+ghost use lib.IntN.{pos};
+ghost use Rattle.site.specs.Kinds.{counted_temperature};
+ghost use Rattle.loads.specs.Temperature.{factor_by_rule, temperature_factor};
 
 use crate::valid::ValidSite;
 
@@ -14,8 +16,10 @@ const FACTORS: [u16; 26] = [
 impl ValidSite {
     // t
     pub fn temperature_factor(self) -> u64
-        ensures { (result ≡ temperature_factor self.site) × (result ≤ most_factor) }
+        ensures value { result ≡ temperature_factor self.site }
+        ensures rule { factor_by_rule (counted_temperature self.site) ≡ pos result }
+        ensures most { result ≤ most_factor }
     {
-        u64::from(FACTORS[usize::from(self.site.temperature())])
+        u64::from(FACTORS[usize::from(self.site.counted_temperature())])
     }
 }

@@ -16,7 +16,7 @@ use Rattle.field.specs.Field.{entries_bytes, value, site_kind}
 use Rattle.field.specs.Kind.{Kind}
 use Rattle.record.specs.Fields.{encode_fields, encode_as}
 use Rattle.field.specs.Clean.{Sized}
-use Rattle.record.specs.Writer.{encode}
+use Rattle.record.specs.Writer.{encode, added_length}
 use Rattle.output.specs.Writing.{Wrote, WroteIf}
 use Rattle.output.proofs.WritingLaws.{then, kept}
 use Rattle.site.proofs.Tags.{tags_from, tags_more, due_tags}
@@ -76,19 +76,19 @@ pub record_wrote : {l b c : List ℕ} {at n q r : ℕ} (s : Site) → n ≡ leng
     → Wrote l at (kind_tag s.kind ∷ (n / 256) ∷ (n % 256) ∷ []) b q → Wrote b q (encode_fields (site_kind s.kind) (due s.kind) s) c r → Wrote l at (encode s) c r
 record_wrote s e v w = encode_wrote (site_kind s.kind) s e v w
 
--- 15 heads, 24 bytes of values of one length, the name and the entries; the fields after 0F have a head and one byte
+-- 15 heads, 24 bytes of values of one length, the name and the entries, then the fields after 0F
 fields_length : (k : RecordKind) (s : Site) → length (encode_fields (site_kind k) (due k) s)
-    ≡ 69 + length (take s.name.len s.name.bytes) + length (entries_bytes (take s.stand.count s.stand.entries)) + 4 * (length (due k) - 15)
+    ≡ 69 + length (take s.name.len s.name.bytes) + length (entries_bytes (take s.stand.count s.stand.entries)) + added_length k
 unfolding encode_fields value field_of
 fields_length Tag52 s = simp length-append (omega arith)
 fields_length Tag53 s = simp length-append (omega arith)
 
-few_due : (k : RecordKind) → length (due k) ≤ 16
-few_due Tag52 = omega arith
-few_due Tag53 = omega arith
+added_few : (k : RecordKind) → added_length k ≤ 4
+added_few Tag52 = omega arith
+added_few Tag53 = omega arith
 
 module _ (s : Site) (z : Sized s) (e : site_rule s ≡ Ok tt) where
-  pub record_length : length (encode s) ≡ 3 + (69 + s.name.len + 4 * s.stand.count + 4 * (length (due s.kind) - 15))
+  pub record_length : length (encode s) ≡ 3 + (69 + s.name.len + 4 * s.stand.count + added_length s.kind)
   record_length =
       let n = name_long s z (site_passed s e 1 (omega arith) (omega arith)).0 in
       let b = bytes_long s z (site_passed s e 7 (omega arith) (omega arith)).0 in
@@ -98,4 +98,4 @@ module _ (s : Site) (z : Sized s) (e : site_rule s ≡ Ok tt) where
   fields_small =
       let n = name_counts s z (site_passed s e 1 (omega arith) (omega arith)).0 in
       let b = stand_counts s z (site_passed s e 7 (omega arith) (omega arith)).0 in
-      omega (arith, encode_length (site_kind s.kind) s, record_length, few_due s.kind)
+      omega (arith, encode_length (site_kind s.kind) s, record_length, added_few s.kind)

@@ -39,11 +39,6 @@ outer_fits bs e = (outer_passed site_tag bs e).inside
 pub outer_inside : (f : List ℕ) (at : ℕ) → outer_rule site_tag (drop at f) ≡ Ok tt → at + 3 + stated_len (drop at f) ≤ length f
 outer_inside f at e = omega (arith, outer_fits (drop at f) e, length-drop at f)
 
--- what the code's reading of an outer field says: its rule, and the kind where it passes
-pub record OuterKind (bs : List ℕ) (k : RecordKind) : Type 0 where
-  pub passed : outer_rule site_tag bs ≡ Ok tt
-  pub kind : site_kinds (get_or bs 0 0) ≡ site_kind k
-
 -- where the code's reading of an outer field at the front of the bytes bs refuses it
 kind_refused : (c : Checked) (q : Result RecordKind Rule) (r : Rule) → (c ≡ Ok tt → q ≡ Err r → ⊥) → and_then c q ≡ Err r → c ≡ Err r
 unfolding and_then

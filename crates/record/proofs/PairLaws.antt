@@ -8,7 +8,7 @@ use Rattle.site.specs.declared.Site.{Site}
 use Rattle.site.specs.declared.RecordKind.{RecordKind}
 use Rattle.site.specs.declared.RecordKind.TheVariants.{Tag52, Tag53}
 use Rattle.site.specs.Kinds.{due}
-use Rattle.site.proofs.Tags.{base_due}
+use Rattle.site.proofs.Tags.{first_fifteen}
 use mathlib.Core.Path.{◌≡◌, refl}
 use Rattle.field.specs.Kind.{Kind}
 use Rattle.field.specs.Field.{site_kind, value}
@@ -37,6 +37,6 @@ pair_place Tag53 = refl
 pub pair_range : (s : Site) → AllBytes (encode s) → PairRange s
 unfolding encode_as field_of value
 pair_range s b =
-    let place : 14 < length (due s.kind) = omega (arith, base_due s.kind) in
+    let place : 14 < length (due s.kind) = omega (arith, first_fifteen s.kind) in
     let pair = rw (pair_place s.kind) at (field_bytes (site_kind s.kind) s (due s.kind) 14 place (λ i. b (suc (suc (suc i))))) in
     record { sulphur = omega (arith, pair 0); nitrogen = omega (arith, pair 2) }

@@ -94,7 +94,7 @@ unfolding site_tag site_kinds
 kind_again Tag52 = (refl, refl)
 kind_again Tag53 = (refl, refl)
 
--- a site that passes is read again from its record, whatever follows it, with zeros past its name and its entries
+-- a site that passes is read again from its record, whatever follows it, as `clean` has it
 pub site_read : (s : Site) → Sized s → site_rule s ≡ Ok tt → (rest : List ℕ) (at : ℕ)
     → record_in site_tag site_kinds (encode s ++ rest) at ≡ Ok (clean s, at + length (encode s))
 site_read s z e rest at =

@@ -29,7 +29,7 @@ use Rattle.record.proofs.SiteFile.{single_is}
 
 -- ---- what is written is read
 
--- a site that passes is read again from its record, with zeros past its name and its entries
+-- a site that passes is read again from its record, as `clean` has it: with zeros past its name and its entries, and the temperature that counts
 pub read_written : (s : Site) → Sized s → site_rule s ≡ Ok tt → read_record (encode s) ≡ Ok (clean s)
 unfolding read_record site_at
 read_written s z e =
@@ -46,7 +46,7 @@ module _ (s : Site) (f : List ℕ) (e : read_record f ≡ Ok s) where
   unfolding read_record
   found_first = single_ok (site_at f) (length f) e
 
-  -- a site that was read passes the check, and past the name and the entries stand zeros
+  -- a site that was read passes the check; past the name and the entries stand zeros, and in the temperature's place of kind 52 that of 8 °C
   pub read_passes : site_rule s ≡ Ok tt
   read_passes = site_passes f 0 found_first
 

@@ -81,7 +81,7 @@ module _ (f : List ℕ) where
   unfolding contents
   sites_written b ss e = contents_written (site_at f) encode f (λ at x r. (omega (arith, site_after f at r), site_bytes f at r b)) most_records ss e
 
--- 1 to 500 sites that pass, encoded one after another, are read back, with zeros past their names and entries
+-- 1 to 500 sites that pass, encoded one after another, are read back, as `clean` has them
 pub sites_read : (ss : List Site) → All (λ s. Sized s × (site_rule s ≡ Ok tt)) ss → 1 ≤ length ss → length ss ≤ most_records
     → contents (flat_map encode ss) ≡ Ok (map clean ss)
 unfolding contents site_at

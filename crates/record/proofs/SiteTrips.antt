@@ -17,7 +17,7 @@ use Rattle.field.specs.Field.{store, entries_bytes, blank_site, blank_of, value,
 use Rattle.site.specs.Refusal.{and_then}
 use Rattle.site.specs.declared.RecordKind.{RecordKind}
 use Rattle.site.specs.declared.RecordKind.TheVariants.{Tag52, Tag53}
-use Rattle.site.specs.Kinds.{due, usual_temperature, temperature_of}
+use Rattle.site.specs.Kinds.{due, reference_temperature, counted_temperature}
 use Rattle.site.specs.Values.{count_rule, value_rule}
 use Rattle.site.proofs.Passing.{both_passed}
 use Rattle.record.specs.Fields.{fields_in, encode_fields}
@@ -72,14 +72,14 @@ module _ (k : RecordKind) (s : Site) (bs : List ℕ) (at : ℕ) (e : fields_in (
 -- ---- a site that was read is clean
 
 -- no field of kind 52 is the temperature
-no_temperature : (u : ℕ) → ltb u 16 ≡ true → (v : List ℕ) (x : Site) → x.temperature ≡ usual_temperature → (store u v x).temperature ≡ usual_temperature
+no_temperature : (u : ℕ) → ltb u 16 ≡ true → (v : List ℕ) (x : Site) → x.temperature ≡ reference_temperature → (store u v x).temperature ≡ reference_temperature
 unfolding store
 no_temperature u h v x p = let other : u ≡ 16 → ⊥ = λ i. omega (arith, ltb-true u 16 h) in rw (ne_eqb u 16 other) p
 
-walked_temperature : (k : RecordKind) (s : Site) (bs : List ℕ) (at : ℕ) → fields_in (site_kind k) bs at ≡ Ok s → temperature_of s ≡ s.temperature
-unfolding temperature_of blank_of blank_site
+walked_temperature : (k : RecordKind) (s : Site) (bs : List ℕ) (at : ℕ) → fields_in (site_kind k) bs at ≡ Ok s → counted_temperature s ≡ s.temperature
+unfolding counted_temperature blank_of blank_site
 walked_temperature Tag52 s bs at e =
-    let kept = through (site_kind Tag52) (λ x. x.temperature ≡ usual_temperature) (due Tag52) (map-all no_temperature (all_by (λ u. ltb u 16) (due Tag52) refl)) (blank_of Tag52) s bs at e refl in
+    let kept = through (site_kind Tag52) (λ x. x.temperature ≡ reference_temperature) (due Tag52) (map-all no_temperature (all_by (λ u. ltb u 16) (due Tag52) refl)) (blank_of Tag52) s bs at e refl in
     rw (walked_kind Tag52 s bs at e, kept)
 walked_temperature Tag53 s bs at e = rw (walked_kind Tag53 s bs at e)
 
@@ -119,7 +119,7 @@ module _ (s : Site) (z : Sized s) (e : site_rule s ≡ Ok tt) where
       rw (stand_back 4 entries, tabulate_pad 4 4 entries no_entry (omega arith), bytes_long s z (name_and_stand s.kind passed).1.0, quarter)
 
   stored_is_clean : (k : RecordKind) → s.kind ≡ k → store_all (site_kind k) (due k) s (blank_of k) ≡ clean s
-  unfolding store_all store value clean blank_of blank_site temperature_of
+  unfolding store_all store value clean blank_of blank_site counted_temperature
   stored_is_clean Tag52 is = rw (is, name_stored, stand_stored) (simp word_back)
   stored_is_clean Tag53 is = rw (is, name_stored, stand_stored) (simp word_back)
 

@@ -1,5 +1,7 @@
 -- The bytes of a site's record, and what a write of them can break.
 use Rattle.std.specs.Prelude.{ℕ, ◌≡◌, List, length, Ok}
+use Rattle.site.specs.declared.RecordKind.{RecordKind}
+use Rattle.site.specs.declared.RecordKind.TheVariants.{Tag52, Tag53}
 use Rattle.site.specs.declared.Site.{Site}
 use Rattle.site.specs.Refusal.{Checked}
 use Rattle.site.specs.Check.{site_rule}
@@ -10,6 +12,11 @@ use Rattle.field.specs.Field.{site_kind}
 -- the record: an outer field with the tag of the site's kind
 abbrev pub encode : Site → List ℕ
 encode s = encode_as (site_kind s.kind) s
+
+-- the bytes of the fields that a kind has after 0F
+abbrev pub added_length : RecordKind → ℕ
+added_length Tag52 = 0
+added_length Tag53 = 4
 
 -- all that a write can break, 11 last
 abbrev pub write_rule : Site → ℕ → Checked

@@ -3,10 +3,21 @@ ghost use Rattle.std.specs.Prelude.{◌≡◌, length, take, Ok, IfOk};
 ghost use Rattle.output.specs.Output.{write_answer, written_numbers, held_after, output_numbers};
 ghost use Rattle.record.specs.Outer.{read_record};
 ghost use Rattle.field.specs.Clean.{clean};
-ghost use Rattle.record.specs.Writer.{encode, write_rule};
+ghost use Rattle.record.specs.Writer.{encode, write_rule, added_length};
 
 use crate::put::{put_fields, put_head};
-use site::{Refusal, Rule, Site, check_site};
+use site::{RecordKind, Refusal, Rule, Site, check_site};
+
+// The bytes of the fields after 0F.
+fn added_length(kind: RecordKind) -> usize
+    ensures { result ≡ added_length kind }
+{
+    match kind {
+        RecordKind::Tag52 => 0,
+        // head and temperature
+        RecordKind::Tag53 => 3 + 1,
+    }
+}
 
 // The record of the site at the front of the buffer; a refusal leaves the buffer as it is.
 pub fn write_record(site: Site, buf: &mut [u8]) -> Result<usize, Refusal>
@@ -16,12 +27,12 @@ pub fn write_record(site: Site, buf: &mut [u8]) -> Result<usize, Refusal>
     ensures read_again { IfOk result (λ n. read_record (take n buf.new) ≡ Ok (clean site)) }
 {
     check_site(site)?;
-    // 15 heads, 24 bytes of values of one length, the name and the entries; the fields after 0F have a head and one byte
+    // 15 heads, 24 bytes of values of one length, the name and the entries, then the fields after 0F
     let body = 15 * 3
         + 24
         + usize::from(site.name.len)
         + 4 * usize::from(site.stand.count)
-        + 4 * (usize::from(site.kind.end()) - 16);
+        + added_length(site.kind);
     if buf.len() < 3 + body {
         return Err(Rule::BufferShort.into());
     }

@@ -8,7 +8,7 @@ use native.Mathlib.Omega.{arith}
 use Rattle.std.specs.Prelude.{Result, Ok, Err}
 use Rattle.site.specs.Check.{fields_rule, site_rule}
 use Rattle.site.specs.Refusal.{values_if, Checked, and_then, unless}
-use Rattle.site.specs.Kinds.{due, temperature_of}
+use Rattle.site.specs.Kinds.{due, counted_temperature}
 use Rattle.site.specs.Values.{item_count, count_rule, value_rule}
 use Rattle.site.specs.declared.Site.{Site}
 use Rattle.site.specs.declared.Refusal.{Refusal}
@@ -39,7 +39,7 @@ module _ (s : Site) (p : Pair) where
   pair_rule = fields_same (due s.kind)
 
   pub pair_terms : terms_of (with_pair s p) ≡ terms_of s
-  unfolding with_pair temperature_of
+  unfolding with_pair counted_temperature
   pair_terms = terms_same (with_pair s p) s (record {
     parent = refl;
     clay = refl;

@@ -19,7 +19,7 @@ use Rattle.site.specs.Check.{site_rule}
 use Rattle.site.specs.Ranges.{parent_range, depth_range, percolation_range, most_species, share_range, most_yield, immobilisation_range, available_range, base_deposition_range, ratio_range, gibbsite_range, ceiling_range, leachate_range, temperature_range}
 use Rattle.site.specs.declared.RecordKind.{RecordKind}
 use Rattle.site.specs.declared.RecordKind.TheVariants.{Tag52, Tag53}
-use Rattle.site.specs.Kinds.{due, temperature_of}
+use Rattle.site.specs.Kinds.{due, counted_temperature}
 use Rattle.site.specs.Values.{count_rule, item_count, value_rule, stand_rule, entry_ranged, inside}
 use Rattle.site.proofs.Tests.{le_or_lt, and_l, and_r}
 use Rattle.site.proofs.Passing.{pass_then, inside_both, between_passed}
@@ -66,8 +66,8 @@ module _ (s : Site) (e : site_rule s ≡ Ok tt) where
   value_at_lem t some most = (site_passed s e t some most).1
 
   -- the temperature that counts: the field's, or that of 8 °C
-  temperature_bound : (k : RecordKind) → s.kind ≡ k → temperature_of s ≤ temperature_range.most
-  unfolding value_rule temperature_of
+  temperature_bound : (k : RecordKind) → s.kind ≡ k → counted_temperature s ≤ temperature_range.most
+  unfolding value_rule counted_temperature
   temperature_bound Tag52 is = rw is (omega arith)
   temperature_bound Tag53 is =
       let due : 16 ≤ length (due s.kind) = rw is (omega arith) in

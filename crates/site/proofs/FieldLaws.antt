@@ -9,7 +9,7 @@ use Rattle.site.specs.Refusal.{and_then}
 use Rattle.std.specs.Prelude.{Ok}
 use Rattle.site.specs.Kinds.{due}
 use Rattle.site.specs.Values.{count_rule, value_rule}
-use Rattle.site.proofs.Tags.{tags_from, tags_more, tags_none, due_tags, base_due}
+use Rattle.site.proofs.Tags.{tags_from, tags_more, tags_none, due_tags, first_fifteen}
 use Rattle.site.specs.Check.{fields_rule, site_rule}
 use Rattle.site.proofs.Tests.{le_or_lt}
 use Rattle.site.proofs.Passing.{both_passed}
@@ -35,7 +35,7 @@ due_passed s e t some most = field_passed (length (due s.kind)) 1 t (t - 1) refl
 -- so in each of 01 to 0F
 pub site_passed : (s : Site) → site_rule s ≡ Ok tt → (t : ℕ) → 1 ≤ t → t ≤ 15
     → (count_rule t s ≡ Ok tt) × (value_rule t s ≡ Ok tt)
-site_passed s e t some most = due_passed s e t some (omega (arith, base_due s.kind))
+site_passed s e t some most = due_passed s e t some (omega (arith, first_fifteen s.kind))
 
 -- no rule for a tag that no kind has
 pub value_none : (t : ℕ) (s : Site) → (t < 17 → t ≡ 0) → value_rule t s ≡ Ok tt

@@ -24,6 +24,6 @@ due_tags Tag52 = refl
 due_tags Tag53 = refl
 
 -- and 01 to 0F are among them
-pub base_due : (k : RecordKind) → 15 ≤ length (due k)
-base_due Tag52 = omega arith
-base_due Tag53 = omega arith
+pub first_fifteen : (k : RecordKind) → 15 ≤ length (due k)
+first_fifteen Tag52 = omega arith
+first_fifteen Tag53 = omega arith

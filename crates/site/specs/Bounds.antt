@@ -3,7 +3,7 @@ use Rattle.std.specs.Prelude.{ℕ, ◌≤◌, ◌<◌, List, get_or}
 use Rattle.site.specs.declared.Site.{Site}
 use Rattle.site.specs.declared.Entry.{Entry}
 use Rattle.site.specs.Ranges.{parent_range, depth_range, percolation_range, most_entries, most_species, share_range, most_yield, immobilisation_range, available_range, base_deposition_range, ratio_range, gibbsite_range, ceiling_range, leachate_range, temperature_range}
-use Rattle.site.specs.Kinds.{temperature_of}
+use Rattle.site.specs.Kinds.{counted_temperature}
 
 -- what stands past the end of a stand
 abbrev pub no_entry : Entry
@@ -31,4 +31,4 @@ pub record Bounds (s : Site) : Type 0 where
   pub gibbsite : s.gibbsite ≤ gibbsite_range.most
   pub ceiling : s.ceiling ≤ ceiling_range.most
   pub leachate : s.leachate ≤ leachate_range.most
-  pub temperature : temperature_of s ≤ temperature_range.most
+  pub temperature : counted_temperature s ≤ temperature_range.most

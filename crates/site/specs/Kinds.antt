@@ -22,13 +22,13 @@ due Tag52 = 1 ∷ 2 ∷ 3 ∷ 4 ∷ 5 ∷ 6 ∷ 7 ∷ 8 ∷ 9 ∷ 10 ∷ 11 ∷ 
 due Tag53 = 1 ∷ 2 ∷ 3 ∷ 4 ∷ 5 ∷ 6 ∷ 7 ∷ 8 ∷ 9 ∷ 10 ∷ 11 ∷ 12 ∷ 13 ∷ 14 ∷ 15 ∷ 16 ∷ []
 
 -- the temperature byte of 8 °C, which stands for the field where a kind has none
-abbrev pub usual_temperature : ℕ
-usual_temperature = 13
+abbrev pub reference_temperature : ℕ
+reference_temperature = 13
 
 -- the temperature byte that counts at a site: for kind 52 it is no part of the site
 abbrev temperature_in : RecordKind → ℕ → ℕ
-temperature_in Tag52 byte = usual_temperature
+temperature_in Tag52 byte = reference_temperature
 temperature_in Tag53 byte = byte
 
-unfoldable pub temperature_of : Site → ℕ
-temperature_of s = temperature_in s.kind s.temperature
+unfoldable pub counted_temperature : Site → ℕ
+counted_temperature s = temperature_in s.kind s.temperature

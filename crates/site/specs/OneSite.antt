@@ -2,7 +2,7 @@
 -- temperature is the one that counts.
 use Rattle.std.specs.Prelude.{◌≡◌, take}
 use Rattle.site.specs.declared.Site.{Site}
-use Rattle.site.specs.Kinds.{temperature_of}
+use Rattle.site.specs.Kinds.{counted_temperature}
 
 pub record OneSite (s t : Site) : Type 0 where
   pub parent : s.parent ≡ t.parent
@@ -19,4 +19,4 @@ pub record OneSite (s t : Site) : Type 0 where
   pub gibbsite : s.gibbsite ≡ t.gibbsite
   pub ceiling : s.ceiling ≡ t.ceiling
   pub leachate : s.leachate ≡ t.leachate
-  pub temperature : temperature_of s ≡ temperature_of t
+  pub temperature : counted_temperature s ≡ counted_temperature t

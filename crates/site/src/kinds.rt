@@ -1,11 +1,11 @@
 // What the kind of a record says: its outer tag, its fields, and what stands for those it lacks.
 ghost use Rattle.std.specs.Prelude.{◌≡◌, ◌+◌, length};
-ghost use Rattle.site.specs.Kinds.{kind_tag, kind_by, due, temperature_of};
+ghost use Rattle.site.specs.Kinds.{kind_tag, kind_by, due, counted_temperature};
 
 use crate::{RecordKind, Rule, Site};
 
 // The temperature byte of 8 °C, which stands for the field where a kind has none.
-pub const USUAL_TEMPERATURE: u8 = 13;
+pub const REFERENCE_TEMPERATURE: u8 = 13;
 
 impl RecordKind {
     pub fn tag(self) -> u8
@@ -42,13 +42,13 @@ impl TryFrom<u8> for RecordKind {
 }
 
 impl Site {
-    // The temperature byte of the site's record, and that of 8 °C where its kind has none.
-    #[tactic(auto, unfolding(crate::specs::Kinds::temperature_of))]
-    pub fn temperature(self) -> u8
-        ensures { result ≡ temperature_of self }
+    // The temperature byte that counts: the site's own, and that of 8 °C where its kind has none.
+    #[tactic(auto, unfolding(crate::specs::Kinds::counted_temperature))]
+    pub fn counted_temperature(self) -> u8
+        ensures { result ≡ counted_temperature self }
     {
         match self.kind {
-            RecordKind::Tag52 => USUAL_TEMPERATURE,
+            RecordKind::Tag52 => REFERENCE_TEMPERATURE,
             RecordKind::Tag53 => self.temperature,
         }
     }

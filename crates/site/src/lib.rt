@@ -13,7 +13,7 @@ mod value;
 
 pub use bytes::{entries_in, entry_at, name_in};
 pub use check::check_site;
-pub use kinds::USUAL_TEMPERATURE;
+pub use kinds::REFERENCE_TEMPERATURE;
 pub use length::length_permitted;
 pub use ranges::{
     AVAILABLE, BASE_DEPOSITION, CEILING, DEPTH, DRAINAGE, GIBBSITE, IMMOBILISATION, LEACHATE,
@@ -52,7 +52,7 @@ pub enum RecordKind {
 }
 
 // The values of document 01, "The site's values", and of document 02, raw: every bad site can be held, and is refused by the check.
-// What its kind lacks is no part of a site: kind 52 has no temperature. Of that the byte 0 is −5 °C.
+// What its kind lacks is no part of a site: kind 52 has no temperature. Temperature byte 0 is −5 °C.
 #[derive(Clone, Copy)]
 pub struct Site {
     pub kind: RecordKind,

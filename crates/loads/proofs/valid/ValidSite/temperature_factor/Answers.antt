@@ -1,9 +1,6 @@
-use Rattle.std.proofs.Common.{refl}
-use Rattle.loads.specs.Temperature.{temperature_factor}
-use Rattle.loads.proofs.TemperatureLaws.{factor_le}
+use Rattle.loads.proofs.TemperatureLaws.{tabled}
 use Rattle.loads.proofs.valid.ValidSite.temperature_factor.Goals as goal
 
 pub returns : goal.returns
-unfolding temperature_factor
 returns c =
-    rw (c.from-2.ensures, c.from.ensures, c.temperature.ensures) (refl, factor_le _ c.args.self.bounds.temperature)
+    rw (c.from-2.ensures, c.from.ensures, c.counted_temperature.ensures) (tabled c.args.self.site c.args.self.bounds)

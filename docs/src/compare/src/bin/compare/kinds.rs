@@ -1,4 +1,5 @@
-//! How often each kind of record and of site value occurred, and each refusal in which they differ.
+//! How often each kind of record and of site value occurred, and each refusal in which they differ. That a site of kind 52
+//! counts as at 8 °C no bytes can show, since none of them carries a temperature: contracts and the forest's tests do.
 
 use forest::{judge, temperature_factor, Kind, Site, Terms, Verdict, EIGHT_DEGREES};
 
