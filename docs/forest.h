@@ -74,7 +74,7 @@
 extern "C" {
 #endif
 
-/* The listing of a file of records. A buffer of FOREST_MOST_TEXT bytes is always long enough. Stack: 106 KiB. */
+/* The listing of a file of records. A buffer of FOREST_MOST_TEXT bytes is always long enough. Stack: 107 KiB. */
 uint64_t forest_list(const uint8_t *file, size_t file_len, uint8_t *out, size_t out_len);
 
 /* The listing as pages of 60 lines: a header and 59 sites, on the last page 1 to 59, and a short last page is not filled.
@@ -84,7 +84,7 @@ uint64_t forest_list(const uint8_t *file, size_t file_len, uint8_t *out, size_t 
 uint64_t forest_pages(const uint8_t *file, size_t file_len, uint8_t *out, size_t out_len);
 
 /* What the program prints for a file: the listing, or the line `refused N at M`. 11 alone is a refusal here, and does not
- * come with a buffer of FOREST_MOST_TEXT bytes. Stack: 106 KiB. */
+ * come with a buffer of FOREST_MOST_TEXT bytes. Stack: 72 KiB. */
 uint64_t forest_report(const uint8_t *file, size_t file_len, uint8_t *out, size_t out_len);
 
 /* A single record, read and written again: a buffer as long as the record, at most FOREST_MOST_RECORD bytes, is long enough.
