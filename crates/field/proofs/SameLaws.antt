@@ -20,7 +20,7 @@ use Rattle.field.specs.Clean.{clean, SameSite, Sized}
 padded_front : {A : Type 0} (l : List A) (n m : ℕ) (d : A) → length l ≡ m → n ≤ m → take n l ≡ take n (take m (take n l ++ replicate m d))
 padded_front l n m d e h = sym (take-take n m (take n l ++ replicate m d) h ∙ take_at (take n l) (replicate m d) n (length-take-le n l (omega arith)))
 
--- of the temperature that counts the temperature that counts is the same
+-- at a clean site the same temperature counts
 counted : (s : Site) (k : RecordKind) → s.kind ≡ k → counted_temperature s ≡ counted_temperature (clean s)
 unfolding counted_temperature clean
 counted s Tag52 e = rw e

@@ -16,7 +16,7 @@ use Rattle.field.specs.Kind.{field_rule}
 use Rattle.field.proofs.KindLaws.{parts_passed}
 
 module _ (t : ℕ) (v : List ℕ) (s : Site) where
-  known_field : known (field_rule (site_kind s.kind) t v s) ≡ true
+  pub known_field : known (field_rule (site_kind s.kind) t v s) ≡ true
   unfolding field_rule known
   known_field = known_pick (length_permitted t (length v)) (value_rule t (store t v s)) (Err BadLength) (known_value t (store t v s)) refl
 
