@@ -1,4 +1,4 @@
--- Record A1 of document 01: 78 bytes, read and written again by the definitions; and the same site at 3 °C, a record of kind 53.
+-- Record A1 of document 01: 78 bytes, read and written again by the definitions; and the same site at 20 °C, the greatest temperature, a record of kind 53.
 use mathlib.Core.Path.{◌≡◌, refl}
 use mathlib.Core.List.{List, [], ◌∷◌, ◌++◌}
 use Prim.Native.Nat.{ℕ}
@@ -46,17 +46,17 @@ pub a1_written : encode a1 ≡ bytes_a1
 unfolding encode_as encode_fields field_of value entries_bytes
 a1_written = refl
 
--- A1 at 3 °C: the outer tag 53, 79 bytes of fields, and the field 10 after 0F
-abbrev pub bytes_a1_3 : List ℕ
-bytes_a1_3 = 83 ∷ 0 ∷ 79 ∷ drop 3 bytes_a1 ++ 16 ∷ 0 ∷ 1 ∷ 8 ∷ []
+-- A1 at 20 °C: the outer tag 53, 79 bytes of fields, and the field 10 after 0F
+abbrev pub bytes_a1_20 : List ℕ
+bytes_a1_20 = 83 ∷ 0 ∷ 79 ∷ drop 3 bytes_a1 ++ 16 ∷ 0 ∷ 1 ∷ 25 ∷ []
 
-abbrev a1_3 : Site
-a1_3 = record a1 { kind = Tag53; temperature = 8 }
+abbrev a1_20 : Site
+a1_20 = record a1 { kind = Tag53; temperature = 25 }
 
-a1_3_read : read_record bytes_a1_3 ≡ Ok a1_3
+a1_20_read : read_record bytes_a1_20 ≡ Ok a1_20
 unfolding read_record single only_one site_at record_in ending outer_rule head_rule unless walk_fields field_rule length_permitted tabulate entry_at store value_rule stand_rule between name_byte entry_ranged rising_from shares_of blank_of blank_site site_tag site_kinds
-a1_3_read = refl
+a1_20_read = refl
 
-a1_3_written : encode a1_3 ≡ bytes_a1_3
+a1_20_written : encode a1_20 ≡ bytes_a1_20
 unfolding encode_as encode_fields field_of value entries_bytes
-a1_3_written = refl
+a1_20_written = refl

@@ -17,7 +17,7 @@ use Rattle.record.specs.Fields.{head_rule, walk_fields, encode_fields, encode_as
 use Rattle.record.specs.Records.{outer_rule, ending, record_in, only_one, single}
 use Rattle.record.specs.Outer.{site_tag, site_kinds, site_at, read_record}
 use Rattle.record.specs.Writer.{write_rule}
-use Rattle.record.proofs.ExampleRecord.{bytes_a1, bytes_a1_3}
+use Rattle.record.proofs.ExampleRecord.{bytes_a1, bytes_a1_20}
 
 -- the fields 01 to 06 of A1
 abbrev to_stand : List ℕ
@@ -46,11 +46,11 @@ refusals =
     ∷ record { bytes = 82 ∷ 0 ∷ 34 ∷ to_stand ++ 7 ∷ 0 ∷ 4 ∷ 0 ∷ 99 ∷ 7 ∷ 208 ∷ []; given = (10, 30) }
     -- kind 53: field 10 is due after 0F, at 78, and is the last
     ∷ record { bytes = 83 ∷ 0 ∷ 75 ∷ drop 3 bytes_a1; given = (6, 78) }  -- none left where 10 is due
-    ∷ record { bytes = 83 ∷ 0 ∷ 80 ∷ drop 3 bytes_a1_3 ++ 16 ∷ []; given = (6, 82) }  -- a byte after 10
-    ∷ record { bytes = 82 ∷ 0 ∷ 79 ∷ drop 3 bytes_a1_3; given = (6, 78) }  -- field 10 in kind 52
+    ∷ record { bytes = 83 ∷ 0 ∷ 80 ∷ drop 3 bytes_a1_20 ++ 16 ∷ []; given = (6, 82) }  -- a byte after 10
+    ∷ record { bytes = 82 ∷ 0 ∷ 79 ∷ drop 3 bytes_a1_20; given = (6, 78) }  -- field 10 in kind 52
     ∷ record { bytes = 83 ∷ 0 ∷ 79 ∷ drop 3 bytes_a1 ++ 16 ∷ 0 ∷ 1 ∷ 26 ∷ []; given = (8, 78) }  -- a temperature above 25
     ∷ record { bytes = 83 ∷ 0 ∷ 80 ∷ drop 3 bytes_a1 ++ 16 ∷ 0 ∷ 2 ∷ 0 ∷ 13 ∷ []; given = (7, 78) }
-    ∷ record { bytes = bytes_a1_3 ++ 82 ∷ []; given = (4, 82) }
+    ∷ record { bytes = bytes_a1_20 ++ 82 ∷ []; given = (4, 82) }
     -- two faults at one place: the first in 01's order
     ∷ record { bytes = 84 ∷ 0 ∷ []; given = (2, 0) }  -- under 3 bytes, then the tag
     ∷ record { bytes = 84 ∷ 255 ∷ 255 ∷ []; given = (3, 0) }  -- the tag, then the length
