@@ -3,7 +3,7 @@ ghost use Rattle.std.specs.Prelude.{◌≡◌};
 ghost use Rattle.exports.specs.Layout.{site_as};
 
 use numbers::{byte, word_at};
-use site::{Name, RecordKind, Site, Stand, REFERENCE_TEMPERATURE, entry_at, name_in};
+use site::{Name, REFERENCE_TEMPERATURE, RecordKind, Site, Stand, entry_at, name_in};
 
 #[tactic(auto, unfolding(crate::specs::Layout::site_as))]
 pub fn site_as(kind: RecordKind, b: &[u8]) -> Site
