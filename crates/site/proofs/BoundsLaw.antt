@@ -16,54 +16,54 @@ use Rattle.std.specs.Prelude.{Ok}
 use Rattle.std.specs.List.{list_all}
 use Rattle.site.specs.Bounds.{no_entry, EntryBounds, StandBounds, Bounds}
 use Rattle.site.specs.Check.{site_rule}
-use Rattle.site.specs.Ranges.{parent_range, depth_range, percolation_range, most_species, share_range, most_yield, immobilisation_range, available_range, base_deposition_range, ratio_range, gibbsite_range, ceiling_range, leachate_range, temperature_range}
+use Rattle.site.specs.Ranges.{parent_range, depth_range, percolation_range, share_range, most_yield, immobilisation_range, available_range, base_deposition_range, ratio_range, gibbsite_range, ceiling_range, leachate_range, temperature_range}
 use Rattle.site.specs.declared.RecordKind.{RecordKind}
-use Rattle.site.specs.declared.RecordKind.TheVariants.{Tag52, Tag53}
+use Rattle.site.specs.declared.RecordKind.TheVariants.{Tag52, Tag53, Tag54}
 use Rattle.site.specs.Kinds.{due, counted_temperature}
-use Rattle.site.specs.Values.{count_rule, item_count, value_rule, stand_rule, entry_ranged, inside}
+use Rattle.site.specs.Values.{count_rule, item_count, value_rule, stand_rule, entries_rule, known_rule, species_ranged, entry_ranged, inside}
 use Rattle.site.proofs.Tests.{le_or_lt, and_l, and_r}
-use Rattle.site.proofs.Passing.{pass_then, inside_both, between_passed}
+use Rattle.site.proofs.Passing.{pass_then, both_passed, inside_both, between_passed}
 use Rattle.site.proofs.PartLaws.{test_at}
 use Rattle.site.proofs.LengthLaws.{count_parts}
 use Rattle.site.proofs.FieldLaws.{due_passed, site_passed}
 
-pub entry_bounds : (e : Entry) → entry_ranged e ≡ true → EntryBounds e
+pub entry_bounds : (k : RecordKind) (e : Entry) → entry_ranged k e ≡ true → EntryBounds e
 unfolding entry_ranged
-entry_bounds e p =
-    let species = leb e.species most_species in
+entry_bounds k e p =
+    let species = species_ranged k e.species in
     let share = inside share_range e.share in
     let yielded = leb e.yield_kg most_yield in
     let both = and_l (species && share) yielded p in
     record {
-      species = leb-true e.species most_species (and_l species share both);
       share = (inside_both share_range e.share (and_r species share both)).1;
       yielded = leb-true e.yield_kg most_yield (and_r (species && share) yielded p);
     }
 
 no_entry_bounds : EntryBounds no_entry
-no_entry_bounds = record { species = omega arith; share = omega arith; yielded = omega arith }
+no_entry_bounds = record { share = omega arith; yielded = omega arith }
 
-each_bounds : (es : List Entry) (n : ℕ) → list_all entry_ranged (take n es) ≡ true → (i : ℕ) → i < n → EntryBounds (get_or es i no_entry)
-each_bounds es n p i h =
+each_bounds : (k : RecordKind) (es : List Entry) (n : ℕ) → list_all (entry_ranged k) (take n es) ≡ true → (i : ℕ) → i < n → EntryBounds (get_or es i no_entry)
+each_bounds k es n p i h =
     ⊎_elim
     (λ (past : length es ≤ i). rw (get_or-eq_default es no_entry {n = i} past) no_entry_bounds)
     (λ (within : i < length es).
     let l : i < length (take n es) = simp length-take (omega arith) in
-    rw get_or-take at (entry_bounds (get_or (take n es) i no_entry) (test_at entry_ranged (take n es) i no_entry l p)))
+    rw get_or-take at (entry_bounds k (get_or (take n es) i no_entry) (test_at (entry_ranged k) (take n es) i no_entry l p)))
     (le_or_lt (length es) i)
 
-stand_bounds : (s : Site) → count_rule 7 s ≡ Ok tt → value_rule 7 s ≡ Ok tt → StandBounds s.stand.entries s.stand.count
-unfolding item_count value_rule stand_rule
-stand_bounds s c v =
+stand_bounds : (list : List ℕ) (k : RecordKind) (s : Site) → count_rule 7 s ≡ Ok tt → value_rule list k 7 s ≡ Ok tt → StandBounds s.stand.entries s.stand.count
+unfolding item_count value_rule stand_rule entries_rule
+stand_bounds list k s c v =
     let n = s.stand.count in
+    let es = take n s.stand.entries in
     record {
       count = (count_parts 7 s c).1;
-      each = each_bounds s.stand.entries n (pass_then (list_all entry_ranged (take n s.stand.entries)) OutOfRange _ v).0;
+      each = each_bounds k s.stand.entries n (pass_then (list_all (entry_ranged k) es) OutOfRange _ (both_passed (entries_rule k es) (known_rule list es) v).0).0;
     }
 
-module _ (s : Site) (e : site_rule s ≡ Ok tt) where
-  value_at_lem : (t : ℕ) → 1 ≤ t → t ≤ 15 → value_rule t s ≡ Ok tt
-  value_at_lem t some most = (site_passed s e t some most).1
+module _ (list : List ℕ) (s : Site) (e : site_rule list s ≡ Ok tt) where
+  value_at_lem : (t : ℕ) → 1 ≤ t → t ≤ 15 → value_rule list s.kind t s ≡ Ok tt
+  value_at_lem t some most = (site_passed list s e t some most).1
 
   -- the temperature that counts: the field's, or that of 8 °C
   temperature_bound : (k : RecordKind) → s.kind ≡ k → counted_temperature s ≤ temperature_range.most
@@ -71,7 +71,10 @@ module _ (s : Site) (e : site_rule s ≡ Ok tt) where
   temperature_bound Tag52 is = rw is (omega arith)
   temperature_bound Tag53 is =
       let due : 16 ≤ length (due s.kind) = rw is (omega arith) in
-      rw is (between_passed temperature_range s.temperature (due_passed s e 16 (omega arith) due).1).1
+      rw is (between_passed temperature_range s.temperature (due_passed list s e 16 (omega arith) due).1).1
+  temperature_bound Tag54 is =
+      let due : 16 ≤ length (due s.kind) = rw is (omega arith) in
+      rw is (between_passed temperature_range s.temperature (due_passed list s e 16 (omega arith) due).1).1
 
   pub bounds : Bounds s
   unfolding value_rule
@@ -79,7 +82,7 @@ module _ (s : Site) (e : site_rule s ≡ Ok tt) where
     parent = (between_passed parent_range s.parent (value_at_lem 2 (omega arith) (omega arith))).1;
     depth = (between_passed depth_range s.depth (value_at_lem 4 (omega arith) (omega arith))).1;
     percolation = (between_passed percolation_range s.percolation (value_at_lem 6 (omega arith) (omega arith))).1;
-    stand = stand_bounds s (site_passed s e 7 (omega arith) (omega arith)).0 (value_at_lem 7 (omega arith) (omega arith));
+    stand = stand_bounds list s.kind s (site_passed list s e 7 (omega arith) (omega arith)).0 (value_at_lem 7 (omega arith) (omega arith));
     immobilisation = (between_passed immobilisation_range s.immobilisation (value_at_lem 8 (omega arith) (omega arith))).1;
     available = (between_passed available_range s.available (value_at_lem 9 (omega arith) (omega arith))).1;
     deposition = (between_passed base_deposition_range s.base_deposition (value_at_lem 10 (omega arith) (omega arith))).1;

@@ -5,6 +5,8 @@ pub mod MatchLaws
 pub mod Passing
 pub mod PartLaws
 pub mod MapLaws
+pub mod ListLaws
+pub mod SearchLaws
 pub mod StandLaws
 pub mod LengthLaws
 pub mod Tags

@@ -1,26 +1,27 @@
--- The check of a site value, or of a field of it, gives no other rule than 7 to 10: a test of the rule, which holds of every branch.
+-- The check of a site value, or of a field of it, gives no other rule than 7 to 10 and 16: a test of the rule, which holds of every branch.
 use mathlib.Core.Path.{◌≡◌, refl}
-use mathlib.Core.Bool.{Bool, true, false, ◌&&◌, false≢true}
+use mathlib.Core.Bool.{Bool, true, false, ◌&&◌, ◌||◌, false≢true}
 use mathlib.Core.List.{List, [], ◌∷◌}
 use Prim.Native.Nat.{ℕ}
 use lib.Dec.{leb, eqb}
 use Rattle.site.specs.declared.Site.{Site}
 use Rattle.site.specs.declared.Entry.{Entry}
-use Rattle.site.specs.declared.Rule.TheVariants.{NoBytes, OuterCut, OuterTag, TooMany, InnerCut, InnerTag, BadLength, OutOfRange, NotRising, SharesNotWhole, BufferShort, BadConcentration, NoReading, PairTooLarge}
-use Rattle.site.specs.Refusal.{Checked, rule_number, checked_number, Numbered, passes, bad_length, out_of_range, not_rising, shares_not_whole, and_then}
+use Rattle.site.specs.declared.RecordKind.{RecordKind}
+use Rattle.site.specs.declared.Rule.TheVariants.{NoBytes, OuterCut, OuterTag, TooMany, InnerCut, InnerTag, BadLength, OutOfRange, NotRising, SharesNotWhole, BufferShort, BadConcentration, NoReading, PairTooLarge, BadList, NotListed}
+use Rattle.site.specs.Refusal.{Checked, rule_number, checked_number, Numbered, passes, bad_length, out_of_range, not_rising, shares_not_whole, not_listed, and_then}
 use Rattle.std.specs.Prelude.{Ok, Err}
 use Rattle.std.specs.List.{list_all}
 use Rattle.site.specs.Choice.{pick}
 use Rattle.site.specs.declared.ranges.Range.{Range}
 use Rattle.site.specs.Ranges.{share_sum}
-use Rattle.site.specs.Values.{items_of, item_count, count_rule, ranged, inside, between, entry_ranged, rising_from, shares_of, order_rule, stand_rule, value_rules, value_rule}
+use Rattle.site.specs.Values.{items_of, item_count, count_rule, ranged, inside, between, entry_ranged, rising_from, shares_of, order_rule, entries_rule, species_known, known_rule, stand_rule, value_rules, value_rule}
 use Rattle.site.specs.Check.{fields_rule, site_rule}
 use Rattle.site.proofs.PartLaws.{all_get_d}
 
--- no rule, or one of 7 to 10
+-- no rule, or one of 7 to 10 and 16
 unfoldable pub known : Checked → Bool
 known (Ok tt) = true
-known (Err r) = leb 7 (rule_number r) && leb (rule_number r) 10
+known (Err r) = leb 7 (rule_number r) && leb (rule_number r) 10 || eqb (rule_number r) 16
 
 number_of : (c : Checked) → known c ≡ true → Numbered c (checked_number c)
 unfolding known checked_number
@@ -39,6 +40,8 @@ number_of (Err BufferShort) e = absurd (false≢true e)
 number_of (Err BadConcentration) e = absurd (false≢true e)
 number_of (Err NoReading) e = absurd (false≢true e)
 number_of (Err PairTooLarge) e = absurd (false≢true e)
+number_of (Err BadList) e = absurd (false≢true e)
+number_of (Err NotListed) e = not_listed
 
 pub numbered : (a b : Checked) → a ≡ b → known b ≡ true → Numbered b (checked_number a)
 numbered a b e k = rw e (number_of b k)
@@ -71,26 +74,31 @@ known_order true false = refl
 known_order false true = refl
 known_order false false = refl
 
-known_stand : (es : List Entry) → known (stand_rule es) ≡ true
-unfolding stand_rule known
-known_stand es =
+known_entries : (k : RecordKind) (es : List Entry) → known (entries_rule k es) ≡ true
+unfolding entries_rule known
+known_entries k es =
     let rising = rising_from 0 es in
     let whole = eqb (shares_of es) share_sum in
-    known_pick (list_all entry_ranged es) (order_rule rising whole) (Err OutOfRange) (known_order rising whole) refl
+    known_pick (list_all (entry_ranged k) es) (order_rule rising whole) (Err OutOfRange) (known_order rising whole) refl
+
+known_stand : (list : List ℕ) (k : RecordKind) (es : List Entry) → known (stand_rule list k es) ≡ true
+unfolding stand_rule known_rule known
+known_stand list k es =
+    known_then (entries_rule k es) (known_rule list es) (known_entries k es) (known_pick (list_all (species_known list) es) (Ok tt) (Err NotListed) refl refl)
 
 known_count : (t : ℕ) (s : Site) → known (count_rule t s) ≡ true
 unfolding count_rule known
-known_count t s = known_pick (leb 1 (item_count t s) && leb (item_count t s) (items_of t).most) (Ok tt) (Err BadLength) refl refl
+known_count t s = known_pick (leb 1 (item_count t s) && leb (item_count t s) (items_of s.kind t).most) (Ok tt) (Err BadLength) refl refl
 
-pub known_value : (t : ℕ) (s : Site) → known (value_rule t s) ≡ true
+pub known_value : (list : List ℕ) (k : RecordKind) (t : ℕ) (s : Site) → known (value_rule list k t s) ≡ true
 unfolding value_rule
-known_value t s = all_get_d known (value_rules s) t (Ok tt) known_passed (simp (known_passed, known_ranged, known_between, known_stand))
+known_value list k t s = all_get_d known (value_rules list k s) t (Ok tt) known_passed (simp (known_passed, known_ranged, known_between, known_stand))
 
-known_fields : (ts : List ℕ) (s : Site) → known (fields_rule ts s) ≡ true
+known_fields : (list : List ℕ) (k : RecordKind) (ts : List ℕ) (s : Site) → known (fields_rule list k ts s) ≡ true
 unfolding fields_rule
-known_fields [] s = known_passed
-known_fields (t ∷ ts) s = known_then _ _ (known_then _ _ (known_count t s) (known_value t s)) (known_fields ts s)
+known_fields list k [] s = known_passed
+known_fields list k (t ∷ ts) s = known_then _ _ (known_then _ _ (known_count t s) (known_value list k t s)) (known_fields list k ts s)
 
-pub known_site : (s : Site) → known (site_rule s) ≡ true
+pub known_site : (list : List ℕ) (s : Site) → known (site_rule list s) ≡ true
 unfolding site_rule
-known_site s = known_fields _ s
+known_site list s = known_fields list s.kind _ s

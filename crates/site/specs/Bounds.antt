@@ -2,7 +2,7 @@
 use Rattle.std.specs.Prelude.{ℕ, ◌≤◌, ◌<◌, List, get_or}
 use Rattle.site.specs.declared.Site.{Site}
 use Rattle.site.specs.declared.Entry.{Entry}
-use Rattle.site.specs.Ranges.{parent_range, depth_range, percolation_range, most_entries, most_species, share_range, most_yield, immobilisation_range, available_range, base_deposition_range, ratio_range, gibbsite_range, ceiling_range, leachate_range, temperature_range}
+use Rattle.site.specs.Ranges.{parent_range, depth_range, percolation_range, most_entries, share_range, most_yield, immobilisation_range, available_range, base_deposition_range, ratio_range, gibbsite_range, ceiling_range, leachate_range, temperature_range}
 use Rattle.site.specs.Kinds.{counted_temperature}
 
 -- what stands past the end of a stand
@@ -10,7 +10,6 @@ abbrev pub no_entry : Entry
 no_entry = record { species = 0; share = 0; yield_kg = 0 }
 
 pub record EntryBounds (e : Entry) : Type 0 where
-  pub species : e.species ≤ most_species
   pub share : e.share ≤ share_range.most
   pub yielded : e.yield_kg ≤ most_yield
 

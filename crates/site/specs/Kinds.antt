@@ -1,25 +1,37 @@
 -- The kinds of record: the outer tag of each, the fields it has, and what counts at a site whose kind lacks one.
-use Rattle.std.specs.Prelude.{ℕ, List, [], ◌∷◌, eqb, Result, Ok, Err}
+use Rattle.std.specs.Prelude.{ℕ, Bool, true, false, List, [], ◌∷◌, eqb, Result, Ok, Err}
 use Rattle.site.specs.Choice.{pick}
 use Rattle.site.specs.declared.RecordKind.{RecordKind}
-use Rattle.site.specs.declared.RecordKind.TheVariants.{Tag52, Tag53}
+use Rattle.site.specs.declared.RecordKind.TheVariants.{Tag52, Tag53, Tag54}
 use Rattle.site.specs.declared.Site.{Site}
 use Rattle.site.specs.declared.Rule.{Rule}
 use Rattle.site.specs.declared.Rule.TheVariants.{OuterTag}
 
--- the outer tag: 52 and 53, hexadecimal
+-- the outer tag: 52, 53 and 54, hexadecimal
 abbrev pub kind_tag : RecordKind → ℕ
 kind_tag Tag52 = 82
 kind_tag Tag53 = 83
+kind_tag Tag54 = 84
 
 -- the kind of an outer tag, and rule 3 for another tag
 abbrev pub kind_by : ℕ → Result RecordKind Rule
-kind_by t = pick (eqb t 82) (Ok Tag52) (pick (eqb t 83) (Ok Tag53) (Err OuterTag))
+kind_by t = pick (eqb t 82) (Ok Tag52) (pick (eqb t 83) (Ok Tag53) (pick (eqb t 84) (Ok Tag54) (Err OuterTag)))
 
--- the tags of the fields, in their order: 01 to 0F, in kind 53 then 10
+-- the tags of the fields, in their order: 01 to 0F, in kinds 53 and 54 then 10
 abbrev pub due : RecordKind → List ℕ
 due Tag52 = 1 ∷ 2 ∷ 3 ∷ 4 ∷ 5 ∷ 6 ∷ 7 ∷ 8 ∷ 9 ∷ 10 ∷ 11 ∷ 12 ∷ 13 ∷ 14 ∷ 15 ∷ []
 due Tag53 = 1 ∷ 2 ∷ 3 ∷ 4 ∷ 5 ∷ 6 ∷ 7 ∷ 8 ∷ 9 ∷ 10 ∷ 11 ∷ 12 ∷ 13 ∷ 14 ∷ 15 ∷ 16 ∷ []
+due Tag54 = 1 ∷ 2 ∷ 3 ∷ 4 ∷ 5 ∷ 6 ∷ 7 ∷ 8 ∷ 9 ∷ 10 ∷ 11 ∷ 12 ∷ 13 ∷ 14 ∷ 15 ∷ 16 ∷ []
+
+-- whether a species number has two bytes
+abbrev pub two_byte_species : RecordKind → Bool
+two_byte_species Tag52 = false
+two_byte_species Tag53 = false
+two_byte_species Tag54 = true
+
+-- the bytes of an entry of the stand: species, share, and two of yield
+abbrev pub entry_width : RecordKind → ℕ
+entry_width k = pick (two_byte_species k) 5 4
 
 -- the temperature byte of 8 °C, which stands for the field where a kind has none
 abbrev pub reference_temperature : ℕ
@@ -29,6 +41,7 @@ reference_temperature = 13
 abbrev temperature_in : RecordKind → ℕ → ℕ
 temperature_in Tag52 byte = reference_temperature
 temperature_in Tag53 byte = byte
+temperature_in Tag54 byte = byte
 
 unfoldable pub counted_temperature : Site → ℕ
 counted_temperature s = temperature_in s.kind s.temperature

@@ -2,6 +2,7 @@ pub mod Choice
 pub mod Refusal
 pub mod Kinds
 pub mod Ranges
+pub mod SpeciesList
 pub mod Values
 pub mod Check
 pub mod Bytes

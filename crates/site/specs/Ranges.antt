@@ -33,6 +33,10 @@ most_entries = 4
 abbrev pub most_species : ℕ
 most_species = 8
 
+-- the species numbers that stand in a list (document 02, E6)
+abbrev pub listed_range : Range
+listed_range = record { least = 256; most = 1023 }
+
 abbrev pub share_range : Range
 share_range = record { least = 1; most = 100 }
 

@@ -2,7 +2,7 @@
 use Rattle.std.specs.Prelude.{ℕ, List, [], ◌∷◌, Result, Ok, Err}
 use Rattle.site.specs.declared.Rule.{Rule}
 use Rattle.site.specs.declared.Refusal.{Refusal}
-use Rattle.site.specs.declared.Rule.TheVariants.{NoBytes, OuterCut, OuterTag, TooMany, InnerCut, InnerTag, BadLength, OutOfRange, NotRising, SharesNotWhole, BufferShort, BadConcentration, NoReading, PairTooLarge}
+use Rattle.site.specs.declared.Rule.TheVariants.{NoBytes, OuterCut, OuterTag, TooMany, InnerCut, InnerTag, BadLength, OutOfRange, NotRising, SharesNotWhole, BufferShort, BadConcentration, NoReading, PairTooLarge, BadList, NotListed}
 
 abbrev pub rule_number : Rule → ℕ
 rule_number NoBytes = 1
@@ -19,6 +19,8 @@ rule_number BufferShort = 11
 rule_number BadConcentration = 12
 rule_number NoReading = 13
 rule_number PairTooLarge = 14
+rule_number BadList = 15
+rule_number NotListed = 16
 
 -- what a check says: it passes, or the rule that is broken
 abbrev pub Checked : Type 0
@@ -29,13 +31,14 @@ unfoldable pub checked_number : {A : Type 0} → Result A Rule → ℕ
 checked_number (Ok x) = 0
 checked_number (Err r) = rule_number r
 
--- the number of what the check of a site value or of a field says: 0, or 7 to 10; no other rule can come
+-- the number of what the check of a site value or of a field says: 0, or 7 to 10, or 16; no other rule can come
 pub data Numbered : Checked → ℕ → Type 0 where
   passes : Numbered (Ok tt) 0
   bad_length : Numbered (Err BadLength) 7
   out_of_range : Numbered (Err OutOfRange) 8
   not_rising : Numbered (Err NotRising) 9
   shares_not_whole : Numbered (Err SharesNotWhole) 10
+  not_listed : Numbered (Err NotListed) 16
 
 -- the first of two that is refused: a check, then another or a value
 unfoldable pub and_then : {A : Type 0} → Checked → Result A Rule → Result A Rule

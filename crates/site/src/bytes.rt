@@ -1,8 +1,9 @@
 // A name and an entry in bytes, with zeros past the end.
 ghost use Rattle.std.specs.Prelude.{◌≡◌, ◌*◌};
 ghost use Rattle.site.specs.Bytes.{tabulate, name_in, entry_at};
+ghost use Rattle.site.specs.Kinds.{entry_width};
 
-use crate::Entry;
+use crate::{Entry, RecordKind};
 use numbers::{byte, word_at};
 use std::array;
 
@@ -13,10 +14,10 @@ pub fn name_in(s: &[u8]) -> [u8; 8]
     array::from_fn(|i| byte(s, i))
 }
 
-// The entry whose four bytes start at i.
+// The entry whose bytes start at i, in a record of a kind.
 #[tactic(auto, using(crate::proofs::EntryPast::entry_past), unfolding(crate::specs::Bytes::entry_at))]
-pub fn entry_at(s: &[u8], i: usize) -> Entry
-    ensures { result ≡ entry_at s.now i }
+pub fn entry_at(kind: RecordKind, s: &[u8], i: usize) -> Entry
+    ensures { result ≡ entry_at kind s.now i }
 {
     if s.len() <= i {
         return Entry {
@@ -25,8 +26,15 @@ pub fn entry_at(s: &[u8], i: usize) -> Entry
             yield_kg: 0,
         };
     }
+    if kind.two_byte_species() {
+        return Entry {
+            species: word_at(s, i),
+            share: byte(s, i + 2),
+            yield_kg: word_at(s, i + 3),
+        };
+    }
     Entry {
-        species: s[i],
+        species: u16::from(s[i]),
         share: byte(s, i + 1),
         yield_kg: word_at(s, i + 2),
     }
@@ -34,8 +42,8 @@ pub fn entry_at(s: &[u8], i: usize) -> Entry
 
 // The entries whose bytes stand at the front.
 #[tactic(auto, unfolding(crate::specs::Bytes::tabulate))]
-pub fn entries_in(s: &[u8]) -> [Entry; 4]
-    ensures { result ≡ tabulate 4 (λ i. entry_at s.now (4 * i)) }
+pub fn entries_in(kind: RecordKind, s: &[u8]) -> [Entry; 4]
+    ensures { result ≡ tabulate 4 (λ i. entry_at kind s.now (entry_width kind * i)) }
 {
-    array::from_fn(|i| entry_at(s, 4 * i))
+    array::from_fn(|i| entry_at(kind, s, kind.entry_width() * i))
 }

@@ -1,6 +1,6 @@
 // What the kind of a record says: its outer tag, its fields, and what stands for those it lacks.
 ghost use Rattle.std.specs.Prelude.{◌≡◌, ◌+◌, length};
-ghost use Rattle.site.specs.Kinds.{kind_tag, kind_by, due, counted_temperature};
+ghost use Rattle.site.specs.Kinds.{kind_tag, kind_by, due, two_byte_species, entry_width, counted_temperature};
 
 use crate::{RecordKind, Rule, Site};
 
@@ -22,7 +22,26 @@ impl RecordKind {
         match self {
             RecordKind::Tag52 => 16,
             RecordKind::Tag53 => 17,
+            RecordKind::Tag54 => 17,
         }
+    }
+
+    // Whether a species number has two bytes.
+    pub fn two_byte_species(self) -> bool
+        ensures { result ≡ two_byte_species self }
+    {
+        match self {
+            RecordKind::Tag52 => false,
+            RecordKind::Tag53 => false,
+            RecordKind::Tag54 => true,
+        }
+    }
+
+    // The bytes of an entry of the stand.
+    pub fn entry_width(self) -> usize
+        ensures { result ≡ entry_width self }
+    {
+        if self.two_byte_species() { 5 } else { 4 }
     }
 }
 
@@ -36,6 +55,7 @@ impl TryFrom<u8> for RecordKind {
         match tag {
             0x52 => Ok(RecordKind::Tag52),
             0x53 => Ok(RecordKind::Tag53),
+            0x54 => Ok(RecordKind::Tag54),
             _ => Err(Rule::OuterTag),
         }
     }
@@ -50,6 +70,7 @@ impl Site {
         match self.kind {
             RecordKind::Tag52 => REFERENCE_TEMPERATURE,
             RecordKind::Tag53 => self.temperature,
+            RecordKind::Tag54 => self.temperature,
         }
     }
 }

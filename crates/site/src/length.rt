@@ -2,7 +2,7 @@
 ghost use Rattle.std.specs.Prelude.{◌≡◌};
 ghost use Rattle.site.specs.Values.{items_of, length_permitted, item_count, count_rule};
 
-use crate::{Rule, Site};
+use crate::{RecordKind, Rule, Site};
 
 // How many bytes an item of a field has, and how many items there may be.
 #[derive(Clone, Copy)]
@@ -13,8 +13,8 @@ struct Items {
 
 // A match and no constant array, which would be set up anew at each call.
 #[tactic(auto, using(crate::proofs::MatchLaws::none_below, crate::proofs::LengthLaws::no_items_lem))]
-fn items_of(tag: u8) -> Items
-    ensures { result ≡ items_of tag }
+fn items_of(kind: RecordKind, tag: u8) -> Items
+    ensures { result ≡ items_of kind tag }
 {
     match tag {
         1 => Items { width: 1, most: 8 },
@@ -23,7 +23,10 @@ fn items_of(tag: u8) -> Items
         4 => Items { width: 1, most: 1 },
         5 => Items { width: 1, most: 1 },
         6 => Items { width: 2, most: 1 },
-        7 => Items { width: 4, most: 4 },
+        7 => Items {
+            width: kind.entry_width(),
+            most: 4,
+        },
         8 => Items { width: 2, most: 1 },
         9 => Items { width: 1, most: 1 },
         10 => Items { width: 2, most: 1 },
@@ -38,13 +41,13 @@ fn items_of(tag: u8) -> Items
 }
 
 #[tactic(auto, using(crate::proofs::LengthLaws::width_positive, crate::proofs::LengthLaws::longest, crate::proofs::LengthLaws::permitted_none, crate::proofs::LengthLaws::permitted_more, crate::proofs::LengthLaws::permitted_items))]
-pub fn length_permitted(tag: u8, n: usize) -> bool
-    ensures { result ≡ length_permitted tag n }
+pub fn length_permitted(kind: RecordKind, tag: u8, n: usize) -> bool
+    ensures { result ≡ length_permitted kind tag n }
 {
     if n < 1 {
         return false;
     }
-    let items = items_of(tag);
+    let items = items_of(kind, tag);
     if items.width * items.most < n {
         return false;
     }
@@ -68,7 +71,7 @@ pub fn count_rule(site: &Site, tag: u8) -> Result<(), Rule>
     ensures { result ≡ count_rule tag site.now }
 {
     let n = item_count(site, tag);
-    if n < 1 || items_of(tag).most < n {
+    if n < 1 || items_of(site.kind, tag).most < n {
         return Err(Rule::BadLength);
     }
     Ok(())

@@ -8,6 +8,7 @@ mod length;
 mod names;
 mod ranges;
 mod rules;
+mod species_list;
 mod stands;
 mod value;
 
@@ -19,12 +20,13 @@ pub use ranges::{
     AVAILABLE, BASE_DEPOSITION, CEILING, DEPTH, DRAINAGE, GIBBSITE, IMMOBILISATION, LEACHATE,
     PARENT, PERCOLATION, RATIO, Range, TEMPERATURE, texture_rule,
 };
+pub use species_list::SpeciesList;
 pub use value::value_rule;
 
 // An entry of the stand: species, share in percent, yield of a pure stand in kg dry matter per hectare and year.
 #[derive(Clone, Copy)]
 pub struct Entry {
-    pub species: u8,
+    pub species: u16,
     pub share: u8,
     pub yield_kg: u16,
 }
@@ -49,6 +51,7 @@ pub struct Stand {
 pub enum RecordKind {
     Tag52 = 0x52,
     Tag53 = 0x53,
+    Tag54 = 0x54,
 }
 
 // The values of document 01, "The site's values", and of document 02, raw: every bad site can be held, and is refused by the check.
@@ -93,6 +96,8 @@ pub enum Rule {
     BadConcentration = 12,
     NoReading = 13,
     PairTooLarge = 14,
+    BadList = 15,
+    NotListed = 16,
 }
 
 // The rule that is broken, and the offset of the fault.

@@ -1,15 +1,30 @@
-// Rules 8, 9 and 10 for the stand.
+// Rules 8, 9, 10 and 16 for the stand.
 ghost use Rattle.std.specs.Prelude.{◌&&◌, ◌≡◌, ◌+◌, ◌*◌, ◌≤◌, leb, eqb, length, take};
 ghost use Rattle.site.specs.Ranges.{most_entries, share_range, share_sum};
-ghost use Rattle.site.specs.Values.{entry_ranged, order_rule, stand_rule};
+ghost use Rattle.site.specs.Values.{species_ranged, entry_ranged, order_rule, entries_rule, species_known, known_rule, stand_rule};
 
-use crate::{Entry, Rule, Stand};
+use crate::{Entry, RecordKind, Rule, SpeciesList, Stand};
+
+// The species numbers of a kind: 0 to 8, and where they have two bytes those of a list as well.
+fn species_ranged(kind: RecordKind, n: u16) -> bool
+    ensures { result ≡ species_ranged kind n }
+{
+    n <= 8 || kind.two_byte_species() && (256..=1023).contains(&n)
+}
 
 #[tactic(auto, unfolding(crate::specs::Values::entry_ranged))]
-fn entry_ranged(e: Entry) -> bool
-    ensures { result ≡ entry_ranged e }
+fn entry_ranged(kind: RecordKind, e: Entry) -> bool
+    ensures { result ≡ entry_ranged kind e }
 {
-    e.species <= 8 && (1..=100).contains(&e.share) && e.yield_kg <= 20000
+    species_ranged(kind, e.species) && (1..=100).contains(&e.share) && e.yield_kg <= 20000
+}
+
+// Rule 16 for one entry.
+#[tactic(auto, unfolding(crate::specs::Values::species_known))]
+fn species_known(e: Entry, list: SpeciesList<'_>) -> bool
+    ensures { result ≡ species_known list.entry.bytes.now e }
+{
+    e.species <= 8 || list.lists(e.species)
 }
 
 // What the entries so far have shown, in one walk: whether their species rise, the least that the next may be, and the sum of their shares.
@@ -58,8 +73,8 @@ impl Stand {
     }
 
     #[tactic(auto, using(crate::proofs::BoundsLaw::entry_bounds, crate::proofs::StandLaws::rest_rule, crate::proofs::StandLaws::rest_start, crate::proofs::StandLaws::rest_end, crate::proofs::StandLaws::rest_next, crate::proofs::StandLaws::rest_stop))]
-    pub fn check(&self) -> Result<(), Rule>
-        ensures { result ≡ stand_rule (take self.now.count self.now.entries) }
+    fn check_entries(&self, kind: RecordKind) -> Result<(), Rule>
+        ensures { result ≡ entries_rule kind (take self.now.count self.now.entries) }
     {
         let mut seen = Seen {
             rising: true,
@@ -67,11 +82,31 @@ impl Stand {
             shares: 0,
         };
         for e in self.as_slice() {
-            if !entry_ranged(*e) {
+            if !entry_ranged(kind, *e) {
                 return Err(Rule::OutOfRange);
             }
             seen = seen.with(*e);
         }
         seen.rule()
+    }
+
+    #[tactic(auto, unfolding(crate::specs::Values::known_rule))]
+    fn check_known(&self, list: SpeciesList<'_>) -> Result<(), Rule>
+        ensures { result ≡ known_rule list.entry.bytes.now (take self.now.count self.now.entries) }
+    {
+        for e in self.as_slice() {
+            if !species_known(*e, list) {
+                return Err(Rule::NotListed);
+            }
+        }
+        Ok(())
+    }
+
+    #[tactic(auto, unfolding(crate::specs::Values::stand_rule, crate::specs::Refusal::and_then))]
+    pub fn check(&self, kind: RecordKind, list: SpeciesList<'_>) -> Result<(), Rule>
+        ensures { result ≡ stand_rule list.entry.bytes.now kind (take self.now.count self.now.entries) }
+    {
+        self.check_entries(kind)?;
+        self.check_known(list)
     }
 }

@@ -1,4 +1,4 @@
-// Rules 8, 9 and 10 of a site's field with a given tag: the byte of the file, of which any can come.
+// Rules 8, 9, 10 and 16 of a site's field with a given tag: the byte of the file, of which any can come.
 ghost use Rattle.std.specs.Prelude.{◌≡◌};
 ghost use Rattle.site.specs.Values.{value_rule};
 
@@ -6,11 +6,11 @@ use crate::ranges::{
     AVAILABLE, BASE_DEPOSITION, CEILING, DEPTH, DRAINAGE, GIBBSITE, IMMOBILISATION, LEACHATE,
     PARENT, PERCOLATION, RATIO, TEMPERATURE, texture_rule,
 };
-use crate::{Rule, Site};
+use crate::{Rule, Site, SpeciesList};
 
 #[tactic(auto, using(crate::proofs::MatchLaws::none_below, crate::proofs::FieldLaws::value_none), unfolding(crate::specs::Values::value_rule))]
-pub fn value_rule(site: &Site, tag: u8) -> Result<(), Rule>
-    ensures { result ≡ value_rule tag site.now }
+pub fn value_rule(site: &Site, tag: u8, list: SpeciesList<'_>) -> Result<(), Rule>
+    ensures { result ≡ value_rule list.entry.bytes.now site.now.kind tag site.now }
 {
     match tag {
         1 => site.name.check(),
@@ -19,7 +19,7 @@ pub fn value_rule(site: &Site, tag: u8) -> Result<(), Rule>
         4 => DEPTH.check(u16::from(site.depth)),
         5 => DRAINAGE.check(u16::from(site.drainage)),
         6 => PERCOLATION.check(site.percolation),
-        7 => site.stand.check(),
+        7 => site.stand.check(site.kind, list),
         8 => IMMOBILISATION.check(site.immobilisation),
         9 => AVAILABLE.check(u16::from(site.available)),
         10 => BASE_DEPOSITION.check(site.base_deposition),
