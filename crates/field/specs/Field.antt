@@ -8,13 +8,13 @@ use Rattle.site.specs.Bytes.{tabulate, name_in, entry_at}
 use Rattle.site.specs.Choice.{pick}
 use Rattle.site.specs.declared.RecordKind.{RecordKind}
 use Rattle.site.specs.declared.RecordKind.TheVariants.{Tag52}
-use Rattle.site.specs.Kinds.{kind_tag, due, reference_temperature}
+use Rattle.site.specs.Kinds.{kind_tag, due, two_byte_species, entry_width, reference_temperature}
 use Rattle.site.specs.Values.{length_permitted, value_rule}
 use Rattle.field.specs.Kind.{Kind}
 
--- the value v of the field with tag t, put into s; past v's end stand zeros
-unfoldable pub store : ℕ → List ℕ → Site → Site
-store t v s = record {
+-- the value v of the field with tag t in a record of kind k, put into s; past v's end stand zeros
+unfoldable pub store : RecordKind → ℕ → List ℕ → Site → Site
+store k t v s = record {
   kind = s.kind;
   name = pick (eqb t 1) (record { bytes = name_in v; len = length v }) s.name;
   parent = pick (eqb t 2) (get_or v 0 0) s.parent;
@@ -23,7 +23,7 @@ store t v s = record {
   depth = pick (eqb t 4) (get_or v 0 0) s.depth;
   drainage = pick (eqb t 5) (get_or v 0 0) s.drainage;
   percolation = pick (eqb t 6) (word_at v 0) s.percolation;
-  stand = pick (eqb t 7) (record { entries = tabulate 4 (λ i. entry_at v (4 * i)); count = length v / 4 }) s.stand;
+  stand = pick (eqb t 7) (record { entries = tabulate 4 (λ i. entry_at k v (entry_width k * i)); count = length v / entry_width k }) s.stand;
   immobilisation = pick (eqb t 8) (word_at v 0) s.immobilisation;
   available = pick (eqb t 9) (get_or v 0 0) s.available;
   base_deposition = pick (eqb t 10) (word_at v 0) s.base_deposition;
@@ -36,10 +36,16 @@ store t v s = record {
   temperature = pick (eqb t 16) (get_or v 0 0) s.temperature;
 }
 
--- the bytes of entries
-unfoldable pub entries_bytes : List Entry → List ℕ
-entries_bytes [] = []
-entries_bytes (e ∷ es) = e.species ∷ e.share ∷ word_bytes e.yield_kg ++ entries_bytes es
+-- the bytes of a species number, and of entries
+abbrev pub species_bytes : RecordKind → ℕ → List ℕ
+species_bytes k n = pick (two_byte_species k) (word_bytes n) (n ∷ [])
+
+unfoldable pub entry_bytes : RecordKind → Entry → List ℕ
+entry_bytes k e = species_bytes k e.species ++ e.share ∷ word_bytes e.yield_kg
+
+unfoldable pub entries_bytes : RecordKind → List Entry → List ℕ
+entries_bytes k [] = []
+entries_bytes k (e ∷ es) = entry_bytes k e ++ entries_bytes k es
 
 -- the site that reading a record of kind 52 starts from; the temperature is that of 8 °C
 unfoldable pub blank_site : Site
@@ -69,9 +75,9 @@ blank_site = record {
 unfoldable pub blank_of : RecordKind → Site
 blank_of k = record blank_site { kind = k }
 
--- the bytes of the values, by tag from 0
-abbrev pub values : Site → List (List ℕ)
-values s =
+-- the bytes of the values in a record of kind k, by tag from 0
+abbrev pub values : RecordKind → Site → List (List ℕ)
+values k s =
     []
     ∷ take s.name.len s.name.bytes  -- 01
     ∷ (s.parent ∷ [])  -- 02
@@ -79,7 +85,7 @@ values s =
     ∷ (s.depth ∷ [])  -- 04
     ∷ (s.drainage ∷ [])  -- 05
     ∷ word_bytes s.percolation  -- 06
-    ∷ entries_bytes (take s.stand.count s.stand.entries)  -- 07
+    ∷ entries_bytes k (take s.stand.count s.stand.entries)  -- 07
     ∷ word_bytes s.immobilisation  -- 08
     ∷ (s.available ∷ [])  -- 09
     ∷ word_bytes s.base_deposition  -- 0A
@@ -92,14 +98,14 @@ values s =
     ∷ []
 
 -- the bytes of the value with tag t; another tag has none
-unfoldable pub value : ℕ → Site → List ℕ
-value t s = get_or (values s) t []
+unfoldable pub value : RecordKind → ℕ → Site → List ℕ
+value k t s = get_or (values k s) t []
 
--- the record of a site, by its kind
-abbrev pub site_kind : RecordKind → Kind Site
-site_kind k =
-    record { tag = kind_tag k; due = due k; blank = blank_of k; permitted = length_permitted; store = store; rule = value_rule; bytes = value }
+-- the record of a site, by its kind, with the list that is lent; nothing but its rules depends on the list
+abbrev pub site_kind : List ℕ → RecordKind → Kind Site
+site_kind list k =
+    record { tag = kind_tag k; due = due k; blank = blank_of k; permitted = length_permitted k; store = store k; rule = value_rule list k; bytes = value k }
 
--- the site with the field's value, where its length is permitted: also if rules 8 to 10 refuse it
-unfoldable pub taken : ℕ → List ℕ → Site → Site
-taken t v s = pick (length_permitted t (length v)) (store t v s) s
+-- the site with the field's value, where its length is permitted: also if a later rule refuses it
+unfoldable pub taken : RecordKind → ℕ → List ℕ → Site → Site
+taken k t v s = pick (length_permitted k t (length v)) (store k t v s) s

@@ -6,13 +6,13 @@ ghost use Rattle.field.specs.Field.{site_kind, store, taken};
 ghost use Rattle.field.specs.Kind.{field_rule};
 
 use numbers::{byte, word_at};
-use site::{Name, Rule, Site, Stand, entries_in, length_permitted, name_in, value_rule};
+use site::{Name, Rule, Site, SpeciesList, Stand, entries_in, length_permitted, name_in, value_rule};
 
 // The value of a field of a permitted length, put into the site.
 #[tactic(auto, using(site::proofs::LengthLaws::permitted_parts, site::proofs::LengthLaws::permitted_tag, site::proofs::MatchLaws::none_left), unfolding(crate::specs::Field::store))]
 fn store(site: &mut Site, tag: u8, value: &[u8])
-    requires { length_permitted tag (length value.now) ≡ true }
-    ensures { site.new ≡ store tag value.now site.old }
+    requires { length_permitted site.old.kind tag (length value.now) ≡ true }
+    ensures { site.new ≡ store site.old.kind tag value.now site.old }
 {
     match tag {
         1 => {
@@ -32,9 +32,9 @@ fn store(site: &mut Site, tag: u8, value: &[u8])
         6 => site.percolation = word_at(value, 0),
         7 => {
             site.stand = Stand {
-                entries: entries_in(value),
-                // and at most 16 of a stand
-                count: (value.len() / 4) as u8,
+                entries: entries_in(site.kind, value),
+                // and at most 20 of a stand
+                count: (value.len() / site.kind.entry_width()) as u8,
             }
         }
         8 => site.immobilisation = word_at(value, 0),
@@ -54,16 +54,21 @@ fn store(site: &mut Site, tag: u8, value: &[u8])
     }
 }
 
-// Rules 7 to 10 of a field. Its value stands in the site where its length is permitted, also if rules 8 to 10 refuse it.
+// Rules 7 to 10 and 16 of a field. Its value stands in the site where its length is permitted, also if a later rule refuses it.
 #[tactic(auto, using(crate::proofs::TakenLaws::field_numbered), unfolding(crate::specs::Field::taken, crate::specs::Kind::field_rule))]
-pub fn take_field(site: &mut Site, tag: u8, value: &[u8]) -> Result<(), Rule>
-    ensures answer { result ≡ field_rule (site_kind site.old.kind) tag value.now site.old }
-    ensures stored { site.new ≡ taken tag value.now site.old }
-    ensures number { Numbered (field_rule (site_kind site.old.kind) tag value.now site.old) (checked_number result) }
+pub fn take_field(
+    site: &mut Site,
+    tag: u8,
+    value: &[u8],
+    list: SpeciesList<'_>,
+) -> Result<(), Rule>
+    ensures answer { result ≡ field_rule (site_kind list.entry.bytes.now site.old.kind) tag value.now site.old }
+    ensures stored { site.new ≡ taken site.old.kind tag value.now site.old }
+    ensures number { Numbered (field_rule (site_kind list.entry.bytes.now site.old.kind) tag value.now site.old) (checked_number result) }
 {
-    if !length_permitted(tag, value.len()) {
+    if !length_permitted(site.kind, tag, value.len()) {
         return Err(Rule::BadLength);
     }
     store(site, tag, value);
-    value_rule(site, tag)
+    value_rule(site, tag, list)
 }

@@ -42,6 +42,6 @@ alone (Err r) = Err r
 abbrev pub most_file : ℕ
 most_file = most_records * most_record + 1
 
--- a file of site records: 1 to 500
-unfoldable pub contents : List ℕ → Contents Site
-contents f = contents_by most_records (site_at f) (length f)
+-- a file of site records: 1 to 500, with the list that is lent
+unfoldable pub contents : (list f : List ℕ) → Contents Site
+contents list f = contents_by most_records (site_at list f) (length f)

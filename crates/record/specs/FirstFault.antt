@@ -17,7 +17,7 @@ pub data FieldsAccepted {A : Type 0} (K : Kind A) : A → List ℕ → ℕ → L
       → FieldsAccepted K (K.store t (value_at bs) x) (rest_at bs) (at + (3 + stated_len bs)) ts y cs end
       → FieldsAccepted K x bs at (t ∷ ts) y cs end
 
--- of the tags ts those `before` are read, and the field that is due next breaks the rule, by 6, 5, 6, 5, 7 to 10
+-- of the tags ts those `before` are read, and the field that is due next breaks the rule, by 6, 5, 6, 5, 7 to 10, 16
 pub record DueBroken {A : Type 0} (K : Kind A) (ts before : List ℕ) (x : A) (bs : List ℕ) (rule : Rule) : Type 0 where
   pub tag : ℕ
   pub later : List ℕ

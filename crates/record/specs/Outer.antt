@@ -24,21 +24,21 @@ abbrev kind_or_52 : Result RecordKind Rule → RecordKind
 kind_or_52 (Ok k) = k
 kind_or_52 (Err r) = Tag52
 
-unfoldable pub site_kinds : ℕ → Kind Site
-site_kinds t = site_kind (kind_or_52 (kind_by t))
+unfoldable pub site_kinds : List ℕ → ℕ → Kind Site
+site_kinds list t = site_kind list (kind_or_52 (kind_by t))
 
--- the record of the file f that starts at offset `at`, and where the next one starts
-unfoldable pub site_at : List ℕ → ℕ → Result (Site × ℕ) Refusal
-site_at f at = record_in site_tag site_kinds (drop at f) at
+-- the record of the file f that starts at offset `at`, and where the next one starts; `list` is the list that is lent
+unfoldable pub site_at : (list f : List ℕ) → ℕ → Result (Site × ℕ) Refusal
+site_at list f at = record_in site_tag (site_kinds list) (drop at f) at
 
 -- the same as the call gives it
 unfoldable pub found_of : Result (Site × ℕ) Refusal → Result Found Refusal
 found_of (Ok x) = Ok (record { site = x.0; next = x.1 })
 found_of (Err r) = Err r
 
-abbrev pub record_at : List ℕ → ℕ → Result Found Refusal
-record_at f at = found_of (site_at f at)
+abbrev pub record_at : (list f : List ℕ) → ℕ → Result Found Refusal
+record_at list f at = found_of (site_at list f at)
 
 -- a file of at most one record
-unfoldable pub read_record : List ℕ → Result Site Refusal
-read_record f = single (site_at f) (length f)
+unfoldable pub read_record : (list f : List ℕ) → Result Site Refusal
+read_record list f = single (site_at list f) (length f)

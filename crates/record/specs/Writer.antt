@@ -1,7 +1,7 @@
 -- The bytes of a site's record, and what a write of them can break.
-use Rattle.std.specs.Prelude.{ℕ, ◌≡◌, List, length, Ok}
+use Rattle.std.specs.Prelude.{ℕ, ◌≡◌, List, [], length, Ok}
 use Rattle.site.specs.declared.RecordKind.{RecordKind}
-use Rattle.site.specs.declared.RecordKind.TheVariants.{Tag52, Tag53}
+use Rattle.site.specs.declared.RecordKind.TheVariants.{Tag52, Tag53, Tag54}
 use Rattle.site.specs.declared.Site.{Site}
 use Rattle.site.specs.Refusal.{Checked}
 use Rattle.site.specs.Check.{site_rule}
@@ -9,20 +9,21 @@ use Rattle.output.specs.Output.{output_rule}
 use Rattle.record.specs.Fields.{encode_as}
 use Rattle.field.specs.Field.{site_kind}
 
--- the record: an outer field with the tag of the site's kind
+-- the record: an outer field with the tag of the site's kind; no list has a part in it
 abbrev pub encode : Site → List ℕ
-encode s = encode_as (site_kind s.kind) s
+encode s = encode_as (site_kind [] s.kind) s
 
 -- the bytes of the fields that a kind has after 0F
 abbrev pub added_length : RecordKind → ℕ
 added_length Tag52 = 0
 added_length Tag53 = 4
+added_length Tag54 = 4
 
 -- all that a write can break, 11 last
-abbrev pub write_rule : Site → ℕ → Checked
-write_rule s room = output_rule (site_rule s) (length (encode s)) room
+abbrev pub write_rule : List ℕ → Site → ℕ → Checked
+write_rule list s room = output_rule (site_rule list s) (length (encode s)) room
 
--- s passes the check, so that the writer takes it, and its record is the bytes bs
-pub record WritesAgain (s : Site) (bs : List ℕ) : Type 0 where
-  pub passes : site_rule s ≡ Ok tt
+-- s passes the check with the list, so that the writer takes it, and its record is the bytes bs
+pub record WritesAgain (list : List ℕ) (s : Site) (bs : List ℕ) : Type 0 where
+  pub passes : site_rule list s ≡ Ok tt
   pub bytes : encode s ≡ bs

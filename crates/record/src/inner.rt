@@ -5,7 +5,7 @@ ghost use Rattle.record.specs.Fields.{head_rule, fields_in};
 
 use crate::bytes::stated_len;
 use field::{blank, take_field};
-use site::{RecordKind, Refusal, Rule, Site};
+use site::{RecordKind, Refusal, Rule, Site, SpeciesList};
 
 // Rules 5 and 6 at the bytes that are left.
 #[tactic(auto, unfolding(crate::specs::Fields::head_rule))]
@@ -29,9 +29,14 @@ fn head_rule(rest: &[u8], tag: u8) -> Result<(), Rule>
 
 // The fields of a record, those of its kind. The part starts at `base` of the lent input.
 #[tactic(auto, using(crate::proofs::WalkLaws::head_passed, crate::proofs::WalkLaws::tag_head, crate::proofs::WalkLaws::tag_value, crate::proofs::WalkLaws::tag_none))]
-pub fn read_fields(kind: RecordKind, part: &[u8], base: usize) -> Result<Site, Refusal>
+pub fn read_fields(
+    kind: RecordKind,
+    part: &[u8],
+    base: usize,
+    list: SpeciesList<'_>,
+) -> Result<Site, Refusal>
     requires { base + length part.now < 2 ^ 64 }
-    ensures { result ≡ fields_in (site_kind kind) part.now base }
+    ensures { result ≡ fields_in (site_kind list.entry.bytes.now kind) part.now base }
 {
     let mut site = blank(kind);
     let mut rest = part;
@@ -39,7 +44,7 @@ pub fn read_fields(kind: RecordKind, part: &[u8], base: usize) -> Result<Site, R
     for tag in 1..kind.end() {
         head_rule(rest, tag).map_err(|rule| Refusal { rule, at })?;
         let end = 3 + stated_len(rest);
-        take_field(&mut site, tag, &rest[3..end]).map_err(|rule| Refusal { rule, at })?;
+        take_field(&mut site, tag, &rest[3..end], list).map_err(|rule| Refusal { rule, at })?;
         rest = &rest[end..];
         at += end;
     }

@@ -11,7 +11,7 @@ ghost use Rattle.record.specs.Writer.{WritesAgain};
 use crate::Found;
 use crate::bytes::stated_len;
 use crate::inner::read_fields;
-use site::{RecordKind, Refusal, Rule, Site};
+use site::{RecordKind, Refusal, Rule, Site, SpeciesList};
 
 // Rules 2 and 3 at the bytes that are left, and the kind of the record there.
 #[tactic(auto, unfolding(crate::specs::Records::outer_rule, crate::specs::Outer::site_tag, site::specs::Refusal::and_then))]
@@ -42,30 +42,30 @@ fn bytes_from(file: &[u8], at: usize) -> &[u8]
 
 // The record whose outer field starts at `at`. Where no byte is left there, that is an outer field under 3 bytes.
 #[tactic(auto, using(crate::proofs::OuterLaws::kind_fits))]
-pub fn read_at(file: &[u8], at: usize) -> Result<Found, Refusal>
-    ensures answer { result ≡ record_at file.now at }
-    ensures numbers { result_numbers result ≡ result_numbers (site_at file.now at) }
+pub fn read_at(file: &[u8], at: usize, list: SpeciesList<'_>) -> Result<Found, Refusal>
+    ensures answer { result ≡ record_at list.entry.bytes.now file.now at }
+    ensures numbers { result_numbers result ≡ result_numbers (site_at list.entry.bytes.now file.now at) }
     ensures nothing_there { length file.now ≤ at → result_numbers result ≡ (2, at) }
-    ensures written_again { IfOk result (λ found. WritesAgain found.site (take (found.next - at) (drop at file.now))) }
+    ensures written_again { IfOk result (λ found. WritesAgain list.entry.bytes.now found.site (take (found.next - at) (drop at file.now))) }
 {
     let rest = bytes_from(file, at);
     let kind = outer_kind(rest).map_err(|rule| Refusal { rule, at })?;
     let end = 3 + stated_len(rest);
-    let site = read_fields(kind, &rest[3..end], at + 3)?;
+    let site = read_fields(kind, &rest[3..end], at + 3, list)?;
     let next = at + end;
     Ok(Found { site, next })
 }
 
 // The single record of a file of at most one.
-pub fn read_record(file: &[u8]) -> Result<Site, Refusal>
-    ensures answer { result ≡ read_record file.now }
-    ensures numbers { result_numbers result ≡ result_numbers (contents_by 1 (site_at file.now) (length file.now)) }
-    ensures written_again { IfOk result (λ site. WritesAgain site file.now) }
+pub fn read_record(file: &[u8], list: SpeciesList<'_>) -> Result<Site, Refusal>
+    ensures answer { result ≡ read_record list.entry.bytes.now file.now }
+    ensures numbers { result_numbers result ≡ result_numbers (contents_by 1 (site_at list.entry.bytes.now file.now) (length file.now)) }
+    ensures written_again { IfOk result (λ site. WritesAgain list.entry.bytes.now site file.now) }
 {
     if file.is_empty() {
         return Err(Rule::NoBytes.into());
     }
-    let Found { site, next } = read_at(file, 0)?;
+    let Found { site, next } = read_at(file, 0, list)?;
     if next != file.len() {
         return Err(Refusal {
             rule: Rule::TooMany,

@@ -22,8 +22,8 @@ pub fn put_head(buf: &mut [u8], at: usize, tag: u8, n: usize) -> usize
 
 #[tactic(auto, using(crate::proofs::EncodeLaws::field_put), unfolding(crate::specs::FieldParts::field_of))]
 fn put_field(buf: &mut [u8], at: usize, site: Site, tag: u8) -> usize
-    requires { at + length (field_of tag (value tag site)) ≤ length buf.old }
-    ensures { Wrote buf.old at (field_of tag (value tag site)) buf.new result }
+    requires { at + length (field_of tag (value site.kind tag site)) ≤ length buf.old }
+    ensures { Wrote buf.old at (field_of tag (value site.kind tag site)) buf.new result }
 {
     let bytes = value_of(site, tag);
     let start = put_head(buf, at, tag, bytes.len());
@@ -31,8 +31,8 @@ fn put_field(buf: &mut [u8], at: usize, site: Site, tag: u8) -> usize
 }
 
 pub fn put_fields(buf: &mut [u8], at: usize, site: Site) -> usize
-    requires { at + length (encode_fields (site_kind site.kind) (due site.kind) site) ≤ length buf.old }
-    ensures { Wrote buf.old at (encode_fields (site_kind site.kind) (due site.kind) site) buf.new result }
+    requires { at + length (encode_fields (site_kind [] site.kind) (due site.kind) site) ≤ length buf.old }
+    ensures { Wrote buf.old at (encode_fields (site_kind [] site.kind) (due site.kind) site) buf.new result }
 {
     let mut end = at;
     for tag in 1..site.kind.end() {

@@ -3,11 +3,11 @@ ghost use Rattle.std.specs.Prelude.{◌≡◌, ◌≤◌, length};
 ghost use Rattle.field.specs.Field.{value, entries_bytes};
 
 use arrayvec::ArrayVec;
-use site::{Entry, Site};
+use site::{Entry, RecordKind, Site};
 
-// Bytes of a value. There are at most 16, those of four entries.
-fn of(bytes: &[u8]) -> ArrayVec<u8, 16>
-    requires { length bytes.now ≤ 16 }
+// Bytes of a value. There are at most 20, those of four entries.
+fn of(bytes: &[u8]) -> ArrayVec<u8, 20>
+    requires { length bytes.now ≤ 20 }
     ensures { result.items ≡ bytes.now }
 {
     let mut held = ArrayVec::new();
@@ -17,23 +17,29 @@ fn of(bytes: &[u8]) -> ArrayVec<u8, 16>
 }
 
 #[tactic(auto, unfolding(field::specs::Field::entries_bytes))]
-fn of_entries(entries: &[Entry]) -> ArrayVec<u8, 16>
+fn of_entries(kind: RecordKind, entries: &[Entry]) -> ArrayVec<u8, 20>
     requires { length entries.now ≤ 4 }
-    ensures { result.items ≡ entries_bytes entries.now }
+    ensures { result.items ≡ entries_bytes kind entries.now }
 {
     let mut held = ArrayVec::new();
     for e in entries {
+        let [high, species] = e.species.to_be_bytes();
         let [hi, lo] = e.yield_kg.to_be_bytes();
-        // no error: by the contract there are at most four entries, with four bytes each
-        held.try_extend_from_slice(&[e.species, e.share, hi, lo])
-            .unwrap();
+        // no error: by the contract there are at most four entries, with at most five bytes each
+        if kind.two_byte_species() {
+            held.try_extend_from_slice(&[high, species, e.share, hi, lo])
+                .unwrap();
+        } else {
+            held.try_extend_from_slice(&[species, e.share, hi, lo])
+                .unwrap();
+        }
     }
     held
 }
 
 #[tactic(auto, unfolding(field::specs::Field::value))]
-pub fn value_of(site: Site, tag: u8) -> ArrayVec<u8, 16>
-    ensures { result.items ≡ value tag site }
+pub fn value_of(site: Site, tag: u8) -> ArrayVec<u8, 20>
+    ensures { result.items ≡ value site.kind tag site }
 {
     match tag {
         1 => of(site.name.as_slice()),
@@ -42,7 +48,7 @@ pub fn value_of(site: Site, tag: u8) -> ArrayVec<u8, 16>
         4 => of(&[site.depth]),
         5 => of(&[site.drainage]),
         6 => of(&site.percolation.to_be_bytes()),
-        7 => of_entries(site.stand.as_slice()),
+        7 => of_entries(site.kind, site.stand.as_slice()),
         8 => of(&site.immobilisation.to_be_bytes()),
         9 => of(&[site.available]),
         10 => of(&site.base_deposition.to_be_bytes()),
