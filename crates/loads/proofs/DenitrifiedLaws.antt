@@ -1,7 +1,7 @@
 -- The denitrified part d by parent material, and e at a site with its bounds.
 use Prim.Native.Nat.{ℕ, ◌-◌, ◌≤◌}
 use mathlib.Core.Path.{◌≡◌, refl}
-use mathlib.Core.List.{[], ◌∷◌}
+use mathlib.Core.List.{List, [], ◌∷◌}
 use native.Mathlib.Omega.{arith}
 use borrow.Author.Tests.{ne_eqb}
 use lib.Dec.{eqb}
@@ -31,15 +31,20 @@ unfolding denitrified
 denitrified-le parent drainage = pick-le (eqb parent 0) (omega arith) (drainage_part_le drainage)
 
 module _ (s : Site) where
-  pub undenitrified_is : (terms_of s).e ≡ 1000 - denitrified s.parent s.drainage
-  unfolding terms_of undenitrified
+  pub undenitrified_is : undenitrified s ≡ 1000 - denitrified s.parent s.drainage
+  unfolding undenitrified
   undenitrified_is = refl
 
-  pub undenitrified_least : least_e ≤ (terms_of s).e
+  pub undenitrified_least : least_e ≤ undenitrified s
   undenitrified_least = omega (arith, undenitrified_is, denitrified-le s.parent s.drainage)
 
-  pub undenitrified-pos : 1 ≤ (terms_of s).e
+  pub undenitrified-pos : 1 ≤ undenitrified s
   undenitrified-pos = omega (arith, undenitrified_least)
 
-  pub undenitrified_most : (terms_of s).e ≤ 1000
+  pub undenitrified_most : undenitrified s ≤ 1000
   undenitrified_most = omega (arith, undenitrified_is)
+
+-- e is that of the site, whatever the list
+pub e_is : (list : List ℕ) (s : Site) → (terms_of list s).e ≡ undenitrified s
+unfolding terms_of
+e_is list s = refl

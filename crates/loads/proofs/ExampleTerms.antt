@@ -1,43 +1,55 @@
--- The values that document 01 gives for site A1, and those of the same site with root depth 51 at 20 °C.
-use Rattle.std.specs.Prelude.{◌≡◌, refl, [], ◌∷◌}
+-- The values that document 01 gives for site A1; those of the same site with root depth 51 at 20 °C, and with a stand of which one species stands in a list.
+use Rattle.std.specs.Prelude.{ℕ, ◌≡◌, refl, List, [], ◌∷◌}
 use Rattle.site.specs.ExampleSite.{a1}
 use Rattle.site.specs.declared.Site.{Site}
-use Rattle.site.specs.declared.RecordKind.TheVariants.{Tag53}
+use Rattle.site.specs.Bounds.{no_entry}
+use Rattle.site.specs.SpeciesList.{first_failing, place_of}
+use Rattle.site.specs.declared.RecordKind.TheVariants.{Tag53, Tag54}
 use Rattle.loads.specs.Rounding.{up}
 use Rattle.loads.specs.Texture.{texture_of}
 use Rattle.site.specs.Kinds.{counted_temperature}
 use Rattle.loads.specs.Temperature.{temperature_factor}
 use Rattle.loads.specs.Weathering.{class_of, weathering_of, weathering, available_weathering}
-use Rattle.loads.specs.Uptake.{content, nitrogen_in, base_in, weight_of, stand_sum, nitrogen_uptake, base_demand, base_uptake_of, base_uptake}
+use Rattle.loads.specs.Uptake.{species_row, content, nitrogen_in, base_in, weight_of, stand_sum, nitrogen_uptake, base_demand, base_uptake_of, base_uptake}
 use Rattle.loads.specs.Hydrogen.{hydrogen_of, al_of, greatest_where, level_of, hydrogen, aluminium, greatest_level, critical_leaching}
 use Rattle.loads.specs.Supply.{base_supply, aluminium_limit}
 use Rattle.loads.specs.Nitrogen.{denitrified, undenitrified, leaching}
-use Rattle.loads.specs.Terms.{Terms}
 use Rattle.loads.specs.SiteTerms.{terms_of}
 use Rattle.loads.specs.CriticalLoads.{cl_max_s, cl_min_n, cl_max_n, cl_nut_n}
 
-abbrev t1 : Terms
-t1 = terms_of a1
+-- W, w, Nu, Bu, A, h, al of a level above it, M, L, and the four loads
+abbrev shown : List ℕ → Site → (above : ℕ) → List ℕ
+shown list s above =
+    let t = terms_of list s in
+    weathering s ∷ available_weathering s ∷ t.Nu ∷ base_uptake list s ∷ t.A ∷ greatest_level t
+    ∷ aluminium t above ∷ critical_leaching t ∷ t.L ∷ cl_max_s t ∷ cl_min_n t ∷ cl_max_n t ∷ cl_nut_n t ∷ []
 
 -- byte 25, at which t is 1690: W is 12750 × 1690 / 100,000, down, 215; rounded before t is applied it would be 214
 abbrev warm : Site
 warm = record a1 { kind = Tag53; depth = 51; temperature = 25 }
 
-abbrev t20 : Terms
-t20 = terms_of warm
+-- a record of kind 54 whose stand is pine and species 300, and a list where that number is the second of two
+abbrev mixed : Site
+mixed = record a1 {
+  kind = Tag54;
+  stand = record { entries = record { species = 0; share = 40; yield_kg = 2000 } ∷ record { species = 300; share = 60; yield_kg = 500 } ∷ no_entry ∷ no_entry ∷ []; count = 2 };
+}
 
--- W, w, Nu, Bu, A, h, al(819), M, L, and the four loads
-terms :
-    weathering a1 ∷ available_weathering a1 ∷ t1.Nu ∷ base_uptake a1 ∷ t1.A ∷ greatest_level t1
-    ∷ aluminium t1 819 ∷ critical_leaching t1 ∷ t1.L ∷ cl_max_s t1 ∷ cl_min_n t1 ∷ cl_max_n t1 ∷ cl_nut_n t1 ∷ []
-    ≡ 125 ∷ 100 ∷ 155 ∷ 181 ∷ 328 ∷ 818 ∷ 329 ∷ 491 ∷ 40 ∷ 735 ∷ 205 ∷ 1021 ∷ 249 ∷ []
-unfolding terms_of up counted_temperature temperature_factor texture_of class_of weathering_of weathering available_weathering content nitrogen_in base_in weight_of stand_sum nitrogen_uptake base_demand base_uptake_of base_uptake base_supply aluminium_limit hydrogen_of al_of greatest_where level_of hydrogen aluminium greatest_level critical_leaching denitrified undenitrified leaching cl_max_s cl_min_n cl_max_n cl_nut_n
+abbrev two_species : List ℕ
+two_species =
+    1 ∷ 0 ∷ 0 ∷ 100 ∷ 0 ∷ 200 ∷ 1 ∷ 44 ∷ 1 ∷ 144 ∷  -- 256: 100 200 300 400
+    1 ∷ 44 ∷ 156 ∷ 64 ∷ 78 ∷ 32 ∷ 19 ∷ 136 ∷ 255 ∷ 255 ∷ []  -- 300: 40000 20000 5000 65535
+
+terms : shown [] a1 819 ≡ 125 ∷ 100 ∷ 155 ∷ 181 ∷ 328 ∷ 818 ∷ 329 ∷ 491 ∷ 40 ∷ 735 ∷ 205 ∷ 1021 ∷ 249 ∷ []
+unfolding terms_of up counted_temperature temperature_factor texture_of class_of weathering_of weathering available_weathering species_row content nitrogen_in base_in weight_of stand_sum nitrogen_uptake base_demand base_uptake_of base_uptake base_supply aluminium_limit hydrogen_of al_of greatest_where level_of hydrogen aluminium greatest_level critical_leaching denitrified undenitrified leaching cl_max_s cl_min_n cl_max_n cl_nut_n
 terms = refl
 
--- the same, but for al(900), since h is 899
-terms_at_20 :
-    weathering warm ∷ available_weathering warm ∷ t20.Nu ∷ base_uptake warm ∷ t20.A ∷ greatest_level t20
-    ∷ aluminium t20 900 ∷ critical_leaching t20 ∷ t20.L ∷ cl_max_s t20 ∷ cl_min_n t20 ∷ cl_max_n t20 ∷ cl_nut_n t20 ∷ []
-    ≡ 215 ∷ 172 ∷ 155 ∷ 181 ∷ 436 ∷ 899 ∷ 437 ∷ 614 ∷ 40 ∷ 948 ∷ 205 ∷ 1258 ∷ 249 ∷ []
-unfolding terms_of up counted_temperature temperature_factor texture_of class_of weathering_of weathering available_weathering content nitrogen_in base_in weight_of stand_sum nitrogen_uptake base_demand base_uptake_of base_uptake base_supply aluminium_limit hydrogen_of al_of greatest_where level_of hydrogen aluminium greatest_level critical_leaching denitrified undenitrified leaching cl_max_s cl_min_n cl_max_n cl_nut_n
+-- h is 899
+terms_at_20 : shown [] warm 900 ≡ 215 ∷ 172 ∷ 155 ∷ 181 ∷ 436 ∷ 899 ∷ 437 ∷ 614 ∷ 40 ∷ 948 ∷ 205 ∷ 1258 ∷ 249 ∷ []
+unfolding terms_of up counted_temperature temperature_factor texture_of class_of weathering_of weathering available_weathering species_row content nitrogen_in base_in weight_of stand_sum nitrogen_uptake base_demand base_uptake_of base_uptake base_supply aluminium_limit hydrogen_of al_of greatest_where level_of hydrogen aluminium greatest_level critical_leaching denitrified undenitrified leaching cl_max_s cl_min_n cl_max_n cl_nut_n
 terms_at_20 = refl
+
+-- Nu from 2,588,610,000 and the base demand, up, from 2,672,320,000
+terms_of_mixed : shown two_species mixed 693 ≡ 125 ∷ 100 ∷ 258 ∷ 268 ∷ 198 ∷ 692 ∷ 199 ∷ 336 ∷ 40 ∷ 493 ∷ 308 ∷ 855 ∷ 352 ∷ []
+unfolding terms_of up counted_temperature temperature_factor texture_of class_of weathering_of weathering available_weathering species_row content nitrogen_in base_in weight_of stand_sum nitrogen_uptake base_demand base_uptake_of base_uptake base_supply aluminium_limit hydrogen_of al_of greatest_where level_of hydrogen aluminium greatest_level critical_leaching denitrified undenitrified leaching cl_max_s cl_min_n cl_max_n cl_nut_n first_failing place_of
+terms_of_mixed = refl

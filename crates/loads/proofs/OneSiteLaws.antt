@@ -1,5 +1,7 @@
--- Two sites that are one site have the same terms: no term reads name or pair, nor an entry past the count.
+-- Two sites that are one site have the same terms with the same list: no term reads name or pair, nor an entry past the count.
 use mathlib.Core.Path.{◌≡◌}
+use mathlib.Core.List.{List}
+use Prim.Native.Nat.{ℕ}
 use Rattle.site.specs.declared.Site.{Site}
 use Rattle.site.specs.OneSite.{OneSite}
 use Rattle.loads.specs.Temperature.{temperature_factor}
@@ -9,6 +11,6 @@ use Rattle.loads.specs.Supply.{base_supply, aluminium_limit}
 use Rattle.loads.specs.Nitrogen.{undenitrified, leaching}
 use Rattle.loads.specs.SiteTerms.{terms_of}
 
-pub terms_same : (s t : Site) → OneSite s t → terms_of s ≡ terms_of t
+pub terms_same : (list : List ℕ) (s t : Site) → OneSite s t → terms_of list s ≡ terms_of list t
 unfolding terms_of temperature_factor weathering available_weathering stand_sum nitrogen_uptake base_demand base_uptake base_supply aluminium_limit undenitrified leaching
-terms_same s t one = cc
+terms_same list s t one = cc

@@ -1,6 +1,7 @@
 -- The terms of a site by its values, and their bounds where the site passes the check.
-use Prim.Native.Nat.{◌+◌, ◌*◌, ◌-◌, ◌/◌, ◌≤◌, min}
+use Prim.Native.Nat.{ℕ, ◌+◌, ◌*◌, ◌-◌, ◌/◌, ◌≤◌, min}
 use mathlib.Core.Path.{◌≡◌, refl}
+use mathlib.Core.List.{List}
 use native.Mathlib.Omega.{arith}
 use native.Mathlib.Nat.{mul-le-mul}
 use lib.Dec.{eqb}
@@ -25,7 +26,7 @@ use Rattle.loads.specs.Temperature.{temperature_factor}
 use Rattle.loads.proofs.TextureLaws.{texture_between}
 use Rattle.loads.proofs.DenitrifiedLaws.{undenitrified-pos, undenitrified_most}
 
-module _ (s : Site) where
+module _ (list : List ℕ) (s : Site) where
   pub weathering_is : weathering s ≡ weathering_of s.parent s.clay s.sand s.depth (temperature_factor s)
   unfolding weathering
   weathering_is = refl
@@ -34,49 +35,49 @@ module _ (s : Site) where
   unfolding available_weathering
   available_is = refl
 
-  pub demand_is : base_demand s ≡ (stand_sum base_in s.stand.entries s.stand.count + (uptake_divisor - 1)) / uptake_divisor
+  pub demand_is : base_demand list s ≡ (stand_sum (base_in list) s.stand.entries s.stand.count + (uptake_divisor - 1)) / uptake_divisor
   unfolding base_demand up
   demand_is = refl
 
-  pub uptake_is : base_uptake s ≡ base_uptake_of (base_demand s) (s.base_deposition + available_weathering s) s.percolation
+  pub uptake_is : base_uptake list s ≡ base_uptake_of (base_demand list s) (s.base_deposition + available_weathering s) s.percolation
   unfolding base_uptake
   uptake_is = refl
 
-  uptake_min : base_uptake s ≡ min (base_demand s) (s.base_deposition + available_weathering s - up s.percolation 10)
+  uptake_min : base_uptake list s ≡ min (base_demand list s) (s.base_deposition + available_weathering s - up s.percolation 10)
   unfolding base_uptake base_uptake_of
   uptake_min = refl
 
-  pub supply_is : (terms_of s).supply ≡ s.base_deposition + weathering s - base_uptake s
+  pub supply_is : (terms_of list s).supply ≡ s.base_deposition + weathering s - base_uptake list s
   unfolding terms_of base_supply
   supply_is = refl
 
-  pub limit_is : (terms_of s).A ≡ limit_of (s.base_deposition + available_weathering s - base_uptake s) s.ratio
+  pub limit_is : (terms_of list s).A ≡ limit_of (s.base_deposition + available_weathering s - base_uptake list s) s.ratio
   unfolding terms_of aluminium_limit
   limit_is = refl
 
-  pub leaching_is : (terms_of s).L ≡ leaching_of s.percolation s.leachate
+  pub leaching_is : (terms_of list s).L ≡ leaching_of s.percolation s.leachate
   unfolding terms_of leaching
   leaching_is = refl
 
   -- CLmaxS and CLminN by plain numbers
   pub cl_max_s_plain :
-      let h = level_of s.percolation s.gibbsite (terms_of s).A s.ceiling in
-      cl_max_s (terms_of s) ≡ (terms_of s).supply + (hydrogen_of s.percolation h + al_of s.percolation s.gibbsite h)
+      let h = level_of s.percolation s.gibbsite (terms_of list s).A s.ceiling in
+      cl_max_s (terms_of list s) ≡ (terms_of list s).supply + (hydrogen_of s.percolation h + al_of s.percolation s.gibbsite h)
   unfolding terms_of cl_max_s critical_leaching hydrogen aluminium greatest_level
   cl_max_s_plain = refl
 
-  pub cl_min_n_plain : cl_min_n (terms_of s) ≡ stand_sum nitrogen_in s.stand.entries s.stand.count / uptake_divisor + s.immobilisation
+  pub cl_min_n_plain : cl_min_n (terms_of list s) ≡ stand_sum (nitrogen_in list) s.stand.entries s.stand.count / uptake_divisor + s.immobilisation
   unfolding terms_of cl_min_n nitrogen_uptake
   cl_min_n_plain = refl
 
 -- the parts behind the base supply and the aluminium limit
-pub record PartBounds (s : Site) : Type 0 where
+pub record PartBounds (list : List ℕ) (s : Site) : Type 0 where
   pub available_le : available_weathering s ≤ most_available
   -- B + w − Bu and B + W − Bu are not cut off
-  pub uptake_part : base_uptake s ≤ s.base_deposition + available_weathering s
-  pub supply_part : base_uptake s ≤ s.base_deposition + weathering s
+  pub uptake_part : base_uptake list s ≤ s.base_deposition + available_weathering s
+  pub supply_part : base_uptake list s ≤ s.base_deposition + weathering s
 
-module _ (s : Site) (b : Bounds s) where
+module _ (list : List ℕ) (s : Site) (b : Bounds s) where
   weathered : weathering s ≤ most_weathering
   unfolding weathering weathering_of
   weathered =
@@ -87,27 +88,27 @@ module _ (s : Site) (b : Bounds s) where
       pick-le (eqb s.parent 0) (omega arith) (omega arith)
 
   available_within : available_weathering s ≤ weathering s
-  available_within = rw (available_is s) (part_le (weathering s) s.available (omega (arith, b.available)))
+  available_within = rw (available_is list s) (part_le (weathering s) s.available (omega (arith, b.available)))
 
-  pub part_bounds : PartBounds s
+  pub part_bounds : PartBounds list s
   part_bounds =
       let p : weathering s * s.available ≤ most_weathering * available_range.most = mul-le-mul weathered b.available in
       record {
-        available_le = omega (arith, available_is s);
-        uptake_part = omega (arith, uptake_min s);
-        supply_part = omega (arith, uptake_min s, available_within);
+        available_le = omega (arith, available_is list s);
+        uptake_part = omega (arith, uptake_min list s);
+        supply_part = omega (arith, uptake_min list s, available_within);
       }
 
-  limited : (terms_of s).A ≤ most_a
+  limited : (terms_of list s).A ≤ most_a
   limited =
-      rw (limit_is s)
-      (quotient_le (1500 * (s.base_deposition + available_weathering s - base_uptake s)) s.ratio 100 most_a b.ratio
+      rw (limit_is list s)
+      (quotient_le (1500 * (s.base_deposition + available_weathering s - base_uptake list s)) s.ratio 100 most_a b.ratio
       (omega (arith, part_bounds.available_le, b.deposition)))
 
-  pub term_bounds : TermBounds (terms_of s)
+  pub term_bounds : TermBounds (terms_of list s)
   unfolding terms_of
   term_bounds = record {
-    supply_le = omega (arith, supply_is s, weathered, b.deposition);
+    supply_le = omega (arith, supply_is list s, weathered, b.deposition);
     A_le = limited;
     Q_le = b.percolation;
     H_le = b.ceiling;

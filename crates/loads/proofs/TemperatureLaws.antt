@@ -17,6 +17,7 @@ use Rattle.site.specs.Ranges.{temperature_range}
 use Rattle.site.specs.Bounds.{Bounds}
 use Rattle.site.specs.Check.{site_rule}
 use Rattle.site.proofs.BoundsLaw.{bounds}
+use mathlib.Core.List.{List}
 use Rattle.site.specs.declared.Site.{Site}
 use Rattle.site.specs.declared.RecordKind.TheVariants.{Tag52}
 use Rattle.site.specs.Kinds.{counted_temperature}
@@ -99,13 +100,13 @@ module _ (s : Site) where
   site_factor_le b = factor_le _ b.temperature
 
   -- so at every site that passes, W is made with the rule's t
-  pub passing_weathering : site_rule s ≡ Ok tt → record {
+  pub passing_weathering : (list : List ℕ) → site_rule list s ≡ Ok tt → record {
     t : ℕ;
     rule : factor_by_rule (counted_temperature s) ≡ pos t;
     made : weathering s ≡ pick (eqb s.parent 0) 0 ((500 * class_of s.parent (texture_of s.clay s.sand) - 250) * s.depth * t / 100000);
   }
   unfolding weathering weathering_of temperature_factor
-  passing_weathering e = record { t = temperature_factor s; rule = factor_is _ (bounds s e).temperature; made = refl }
+  passing_weathering list e = record { t = temperature_factor s; rule = factor_is _ (bounds list s e).temperature; made = refl }
 
   -- kind 52 keeps its meaning
   pub factor_52 : s.kind ≡ Tag52 → temperature_factor s ≡ 1000

@@ -35,8 +35,8 @@ loads_of t = record { max_s = cl_max_s t; min_n = cl_min_n t; max_n = cl_max_n t
 unfoldable pub load_numbers : Loads → List ℕ
 load_numbers l = l.max_s ∷ l.min_n ∷ l.max_n ∷ l.nut_n ∷ []
 
-unfoldable pub loads_answer : Site → Result Loads Rule
-loads_answer s = and_then (site_rule s) (Ok (loads_of (terms_of s)))
+unfoldable pub loads_answer : List ℕ → Site → Result Loads Rule
+loads_answer list s = and_then (site_rule list s) (Ok (loads_of (terms_of list s)))
 
 -- the values of each case: the loads, or the refusal's number and offset
 unfoldable pub loads_values : Result Loads Rule → List ℕ

@@ -6,8 +6,8 @@ use Rattle.site.specs.Refusal.{refusal_values, and_then}
 use Rattle.site.specs.Check.{site_rule}
 use Rattle.loads.specs.SiteTerms.{terms_of}
 
-unfoldable pub limit_answer : Site → Result ℕ Rule
-limit_answer s = and_then (site_rule s) (Ok (terms_of s).A)
+unfoldable pub limit_answer : List ℕ → Site → Result ℕ Rule
+limit_answer list s = and_then (site_rule list s) (Ok (terms_of list s).A)
 
 -- the values of each case: A, or the refusal's number and offset
 unfoldable pub limit_values : Result ℕ Rule → List ℕ

@@ -1,16 +1,17 @@
--- How a site gives each term.
+-- How a site gives each term, with the list of species that is lent.
+use Rattle.std.specs.Prelude.{ℕ, List}
 use Rattle.site.specs.declared.Site.{Site}
 use Rattle.loads.specs.Terms.{Terms}
 use Rattle.loads.specs.Uptake.{nitrogen_uptake}
 use Rattle.loads.specs.Supply.{base_supply, aluminium_limit}
 use Rattle.loads.specs.Nitrogen.{undenitrified, leaching}
 
-unfoldable pub terms_of : Site → Terms
-terms_of s = record {
-  Nu = nitrogen_uptake s;
+unfoldable pub terms_of : List ℕ → Site → Terms
+terms_of list s = record {
+  Nu = nitrogen_uptake list s;
   Ni = s.immobilisation;
-  supply = base_supply s;
-  A = aluminium_limit s;
+  supply = base_supply list s;
+  A = aluminium_limit list s;
   Q = s.percolation;
   K = s.gibbsite;
   H = s.ceiling;

@@ -1,5 +1,9 @@
 -- Uptake of nitrogen and of base cations.
-use Rattle.std.specs.Prelude.{ℕ, ◌+◌, ◌*◌, ◌-◌, ◌/◌, min, List, [], ◌∷◌, get_or, take, sum_by}
+use Rattle.std.specs.Prelude.{ℕ, ◌+◌, ◌*◌, ◌-◌, ◌/◌, min, List, [], ◌∷◌, leb, get_or, take, sum_by}
+use Rattle.numbers.specs.TwoBytes.{word_at}
+use Rattle.site.specs.Choice.{pick}
+use Rattle.site.specs.Ranges.{most_species}
+use Rattle.site.specs.SpeciesList.{place_of}
 use Rattle.site.specs.declared.Site.{Site}
 use Rattle.site.specs.declared.Entry.{Entry}
 use Rattle.loads.specs.Rounding.{up}
@@ -19,18 +23,26 @@ species_table =
     ∷ (8483 ∷ 2470 ∷ 3330 ∷ 9995 ∷ [])  -- 8 other deciduous
     ∷ []
 
--- an element's content in a species: 0 Ca, 1 Mg, 2 K, 3 N
-unfoldable pub content : (species element : ℕ) → ℕ
-content species element = get_or (get_or species_table species []) element 0
+-- the contents in an entry of a list
+abbrev pub listed_row : List ℕ → ℕ → List ℕ
+listed_row list i = word_at list (10 * i + 2) ∷ word_at list (10 * i + 4) ∷ word_at list (10 * i + 6) ∷ word_at list (10 * i + 8) ∷ []
 
-unfoldable pub nitrogen_in : ℕ → ℕ
-nitrogen_in species = content species 3
+-- the contents of a species: from the table, and past it from the list that is lent (document 02, E6). Where neither has it, which rule 16 refuses, they are 0.
+unfoldable pub species_row : (list : List ℕ) (species : ℕ) → List ℕ
+species_row list species = pick (leb species most_species) (get_or species_table species []) (listed_row list (place_of list species))
+
+-- an element's content in a species: 0 Ca, 1 Mg, 2 K, 3 N
+unfoldable pub content : (list : List ℕ) (species element : ℕ) → ℕ
+content list species element = get_or (species_row list species) element 0
+
+unfoldable pub nitrogen_in : (list : List ℕ) (species : ℕ) → ℕ
+nitrogen_in list species = content list species 3
 
 -- Ca + Mg + K
-unfoldable pub base_in : ℕ → ℕ
-base_in species = content species 0 + content species 1 + content species 2
+unfoldable pub base_in : (list : List ℕ) (species : ℕ) → ℕ
+base_in list species = content list species 0 + content list species 1 + content list species 2
 
--- share × yield × content of one entry
+-- share × yield × content of one entry: the same rule for every species, wherever its content stands
 unfoldable pub weight_of : (ℕ → ℕ) → Entry → ℕ
 weight_of content_in e = e.share * e.yield_kg * content_in e.species
 
@@ -43,15 +55,15 @@ abbrev pub uptake_divisor : ℕ
 uptake_divisor = 10000000
 
 -- Nu
-unfoldable pub nitrogen_uptake : Site → ℕ
-nitrogen_uptake s = stand_sum nitrogen_in s.stand.entries s.stand.count / uptake_divisor
+unfoldable pub nitrogen_uptake : List ℕ → Site → ℕ
+nitrogen_uptake list s = stand_sum (nitrogen_in list) s.stand.entries s.stand.count / uptake_divisor
 
-unfoldable pub base_demand : Site → ℕ
-base_demand s = up (stand_sum base_in s.stand.entries s.stand.count) uptake_divisor
+unfoldable pub base_demand : List ℕ → Site → ℕ
+base_demand list s = up (stand_sum (base_in list) s.stand.entries s.stand.count) uptake_divisor
 
 -- Bu, where bases are B + w: the demand, at most B + w − Q/10, and 0 where this is negative: the subtraction of ℕ gives 0 there
 unfoldable pub base_uptake_of : (demand bases q : ℕ) → ℕ
 base_uptake_of demand bases q = min demand (bases - up q 10)
 
-unfoldable pub base_uptake : Site → ℕ
-base_uptake s = base_uptake_of (base_demand s) (s.base_deposition + available_weathering s) s.percolation
+unfoldable pub base_uptake : List ℕ → Site → ℕ
+base_uptake list s = base_uptake_of (base_demand list s) (s.base_deposition + available_weathering s) s.percolation

@@ -7,7 +7,7 @@ ghost use Rattle.loads.specs.Limits.{limit_answer, limit_values};
 
 use crate::uptake::base_uptake;
 use crate::valid::ValidSite;
-use site::{Rule, Site};
+use site::{Rule, Site, SpeciesList};
 
 // B + W − Bu, and A
 #[derive(Clone, Copy)]
@@ -16,11 +16,11 @@ pub struct Bases {
     pub limit: u64,
 }
 
-impl ValidSite {
+impl ValidSite<'_> {
     // of a site
     #[tactic(auto, using(crate::proofs::SiteTermLaws::weathering_is, crate::proofs::SiteTermLaws::available_is, crate::proofs::SiteTermLaws::demand_is, crate::proofs::SiteTermLaws::uptake_is, crate::proofs::SiteTermLaws::supply_is, crate::proofs::SiteTermLaws::limit_is))]
     pub fn bases(self) -> Bases
-        ensures { (result.supply ≡ (terms_of self.site).supply) × (result.limit ≡ (terms_of self.site).A) }
+        ensures { (result.supply ≡ (terms_of self.entry.list.bytes.now self.entry.site).supply) × (result.limit ≡ (terms_of self.entry.list.bytes.now self.entry.site).A) }
     {
         let s = self.site;
         let deposited = u64::from(s.base_deposition);
@@ -38,10 +38,10 @@ impl ValidSite {
 
 // The aluminium limit of a site, or the first rule that it breaks.
 #[tactic(auto, unfolding(crate::specs::Limits::limit_answer, crate::specs::Limits::limit_values, site::specs::Refusal::values_if, site::specs::Refusal::and_then))]
-pub fn aluminium_limit(site: Site) -> Result<u64, Rule>
-    ensures answer { result ≡ limit_answer site }
-    ensures values { limit_values result ≡ values_if (site_rule site) ((terms_of site).A ∷ []) }
+pub fn aluminium_limit(site: Site, list: SpeciesList<'_>) -> Result<u64, Rule>
+    ensures answer { result ≡ limit_answer list.entry.bytes.now site }
+    ensures values { limit_values result ≡ values_if (site_rule list.entry.bytes.now site) ((terms_of list.entry.bytes.now site).A ∷ []) }
 {
-    let site = ValidSite::try_from(site)?;
+    let site = ValidSite::checked(site, list)?;
     Ok(site.bases().limit)
 }

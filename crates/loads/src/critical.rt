@@ -10,13 +10,13 @@ use crate::Loads;
 use crate::hydrogen::SoilWater;
 use crate::nitrogen::undenitrified_at;
 use crate::valid::ValidSite;
-use site::{Rule, Site};
+use site::{Rule, Site, SpeciesList};
 
-impl ValidSite {
+impl ValidSite<'_> {
     // CLmaxS
     #[tactic(auto, using(crate::proofs::SiteTermLaws::term_bounds, crate::proofs::SiteTermLaws::cl_max_s_plain))]
     fn max_s(self) -> u64
-        ensures { (result ≡ cl_max_s (terms_of self.site)) × (result ≤ most_max_s) }
+        ensures { (result ≡ cl_max_s (terms_of self.entry.list.bytes.now self.entry.site)) × (result ≤ most_max_s) }
     {
         let s = self.site;
         let bases = self.bases();
@@ -29,9 +29,9 @@ impl ValidSite {
         bases.supply + water.leaching()
     }
 
-    #[tactic(auto, using(crate::proofs::DenitrifiedLaws::undenitrified_least, crate::proofs::SiteTermLaws::cl_min_n_plain), unfolding(crate::specs::CriticalLoads::loads_of, crate::specs::CriticalLoads::cl_max_n, crate::specs::CriticalLoads::cl_nut_n))]
+    #[tactic(auto, using(crate::proofs::DenitrifiedLaws::undenitrified_least, crate::proofs::DenitrifiedLaws::e_is, crate::proofs::SiteTermLaws::cl_min_n_plain), unfolding(crate::specs::CriticalLoads::loads_of, crate::specs::CriticalLoads::cl_max_n, crate::specs::CriticalLoads::cl_nut_n))]
     fn loads(self) -> Loads
-        ensures { result ≡ loads_of (terms_of self.site) }
+        ensures { result ≡ loads_of (terms_of self.entry.list.bytes.now self.entry.site) }
     {
         let s = self.site;
         let max_s = self.max_s();
@@ -49,10 +49,10 @@ impl ValidSite {
 
 // The loads of a site, or the first rule that it breaks.
 #[tactic(auto, unfolding(crate::specs::CriticalLoads::loads_answer, crate::specs::CriticalLoads::loads_values, crate::specs::CriticalLoads::load_numbers, crate::specs::CriticalLoads::loads_of, site::specs::Refusal::values_if, site::specs::Refusal::and_then))]
-pub fn critical_loads(site: Site) -> Result<Loads, Rule>
-    ensures answer { result ≡ loads_answer site }
-    ensures values { loads_values result ≡ values_if (site_rule site) (cl_max_s (terms_of site) ∷ cl_min_n (terms_of site) ∷ cl_max_n (terms_of site) ∷ cl_nut_n (terms_of site) ∷ []) }
+pub fn critical_loads(site: Site, list: SpeciesList<'_>) -> Result<Loads, Rule>
+    ensures answer { result ≡ loads_answer list.entry.bytes.now site }
+    ensures values { let t = terms_of list.entry.bytes.now site in loads_values result ≡ values_if (site_rule list.entry.bytes.now site) (cl_max_s t ∷ cl_min_n t ∷ cl_max_n t ∷ cl_nut_n t ∷ []) }
 {
-    let site = ValidSite::try_from(site)?;
+    let site = ValidSite::checked(site, list)?;
     Ok(site.loads())
 }

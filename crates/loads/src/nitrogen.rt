@@ -1,7 +1,7 @@
 // The part of nitrogen that is not denitrified, and the acceptable leaching.
 ghost use Rattle.std.specs.Prelude.{◌≡◌, ◌≤◌};
 ghost use Rattle.loads.specs.MostTerms.{most_l, most_d};
-ghost use Rattle.loads.specs.Nitrogen.{denitrified};
+ghost use Rattle.loads.specs.Nitrogen.{denitrified, undenitrified};
 ghost use Rattle.loads.specs.SiteTerms.{terms_of};
 
 use crate::valid::ValidSite;
@@ -27,16 +27,16 @@ fn denitrified_of(parent: u8, drainage: u8) -> u64
 // e at a site
 #[tactic(auto, using(crate::proofs::DenitrifiedLaws::undenitrified_is))]
 pub fn undenitrified_at(s: Site) -> u64
-    ensures { result ≡ (terms_of s).e }
+    ensures { result ≡ undenitrified s }
 {
     1000 - denitrified_of(s.parent, s.drainage)
 }
 
-impl ValidSite {
+impl ValidSite<'_> {
     // L
     #[tactic(auto, using(crate::proofs::Numbers::prod, crate::proofs::SiteTermLaws::leaching_is))]
     pub fn leaching(self) -> u64
-        ensures { (result ≡ (terms_of self.site).L) × (result ≤ most_l) }
+        ensures { (result ≡ (terms_of self.entry.list.bytes.now self.entry.site).L) × (result ≤ most_l) }
     {
         u64::from(self.site.percolation) * u64::from(self.site.leachate) / 100
     }

@@ -13,11 +13,11 @@ const FACTORS: [u16; 26] = [
     1251, 1307, 1365, 1426, 1488, 1553, 1620, 1690,
 ];
 
-impl ValidSite {
+impl ValidSite<'_> {
     // t
     pub fn temperature_factor(self) -> u64
-        ensures value { result ≡ temperature_factor self.site }
-        ensures rule { factor_by_rule (counted_temperature self.site) ≡ pos result }
+        ensures value { result ≡ temperature_factor self.entry.site }
+        ensures rule { factor_by_rule (counted_temperature self.entry.site) ≡ pos result }
         ensures most { result ≤ most_factor }
     {
         u64::from(FACTORS[usize::from(self.site.counted_temperature())])

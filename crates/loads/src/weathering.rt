@@ -25,11 +25,11 @@ fn weathered(k: u64, z: u64, t: u64) -> u64
     (500 * k - 250) * z * t / 100_000
 }
 
-impl ValidSite {
+impl ValidSite<'_> {
     // W
     #[tactic(auto, using(crate::proofs::Tables::class_le, crate::proofs::Tables::class_pos, crate::proofs::TextureLaws::texture_between), unfolding(crate::specs::Weathering::weathering, crate::specs::Weathering::weathering_of, crate::specs::Weathering::class_of))]
     pub fn weathering(self) -> u64
-        ensures { (result ≡ weathering self.site) × (result ≤ most_weathering) }
+        ensures { (result ≡ weathering self.entry.site) × (result ≤ most_weathering) }
     {
         let s = self.site;
         if s.parent == 0 {

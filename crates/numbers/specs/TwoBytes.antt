@@ -1,5 +1,9 @@
 -- Numbers of two bytes have the high byte first, and past the end of the bytes stand zeros.
-use Rattle.std.specs.Prelude.{ℕ, ◌+◌, ◌*◌, ◌/◌, ◌%◌, List, [], ◌∷◌, get_or}
+use Rattle.std.specs.Prelude.{ℕ, ◌+◌, ◌*◌, ◌/◌, ◌%◌, ◌<◌, List, [], ◌∷◌, get_or}
+
+-- every element is a byte: so it is in every slice of bytes
+abbrev pub AllBytes : List ℕ → Type 0
+AllBytes bs = (i : ℕ) → get_or bs i 0 < 256
 
 abbrev pub word_of : ℕ → ℕ → ℕ
 word_of hi lo = 256 * hi + lo
