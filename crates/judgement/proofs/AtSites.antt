@@ -24,59 +24,59 @@ use Rattle.judgement.proofs.Exceeding.{zero_iff}
 use Rattle.judgement.proofs.Demand3.{within_iff_closes, verdict_tells}
 use Rattle.judgement.proofs.Monotone.{within_less, acid_less, nutrient_less}
 
-module _ (s : Site) (passed : site_rule s ≡ Ok tt) where
-  pub site_bounds : TermBounds (terms_of s)
-  site_bounds = term_bounds s (bounds s passed)
+module _ (list : List ℕ) (s : Site) (passed : site_rule list s ≡ Ok tt) where
+  pub site_bounds : TermBounds (terms_of list s)
+  site_bounds = term_bounds list s (bounds list s passed)
 
-  pub max_s_le : (loads_of (terms_of s)).max_s ≤ most_max_s
+  pub max_s_le : (loads_of (terms_of list s)).max_s ≤ most_max_s
   unfolding loads_of
-  max_s_le = cl_max_s-le (terms_of s) site_bounds
+  max_s_le = cl_max_s-le (terms_of list s) site_bounds
 
   -- demand 3, for every pair
-  pub demand_3 : (S N : ℕ) → (verdict (terms_of s) S N ≡ Within) ↔ Closes (terms_of s) S N
-  demand_3 = within_iff_closes (terms_of s) site_bounds
+  pub demand_3 : (S N : ℕ) → (verdict (terms_of list s) S N ≡ Within) ↔ Closes (terms_of list s) S N
+  demand_3 = within_iff_closes (terms_of list s) site_bounds
 
   -- and the word says so
-  pub word_tells : (S N : ℕ) → Tells within over (verdict_word (verdict (terms_of s) S N)) (terms_of s) S N
+  pub word_tells : (S N : ℕ) → Tells within over (verdict_word (verdict (terms_of list s) S N)) (terms_of list s) S N
   unfolding verdict_word
-  word_tells S N = verdict_tells (terms_of s) site_bounds S N verdict_word refl (λ r a n. refl) (λ e. cc)
+  word_tells S N = verdict_tells (terms_of list s) site_bounds S N verdict_word refl (λ r a n. refl) (λ e. cc)
 
   -- the acid exceedance is 0 exactly in region 0
-  pub acid_zero : (S N : ℕ) → (acid_exceedance (terms_of s) S N ≡ 0) ↔ (region (terms_of s) S N ≡ AcidKept)
+  pub acid_zero : (S N : ℕ) → (acid_exceedance (terms_of list s) S N ≡ 0) ↔ (region (terms_of list s) S N ≡ AcidKept)
   unfolding acid_exceedance region
-  acid_zero S N = zero_iff S N (cl_max_s (terms_of s)) (cl_min_n (terms_of s)) (terms_of s).e site_bounds.e_least
+  acid_zero S N = zero_iff S N (cl_max_s (terms_of list s)) (cl_min_n (terms_of list s)) (terms_of list s).e site_bounds.e_least
 
   -- two pairs at one site, the second with as much or less S and as much or less N
   module _ (t : Site) (one : OneSite s t) {S N S' N' : ℕ} (less_s : S' ≤ S) (less_n : N' ≤ N) where
-    within_stays : verdict (terms_of s) S N ≡ Within → verdict (terms_of t) S' N' ≡ Within
-    within_stays = rw (← terms_same s t one) (within_less (terms_of s) site_bounds less_s less_n)
+    within_stays : verdict (terms_of list s) S N ≡ Within → verdict (terms_of list t) S' N' ≡ Within
+    within_stays = rw (← terms_same list s t one) (within_less (terms_of list s) site_bounds less_s less_n)
 
-    closes_stays : Closes (terms_of s) S N → Closes (terms_of t) S' N'
+    closes_stays : Closes (terms_of list s) S N → Closes (terms_of list t) S' N'
     closes_stays k = (demand_3_at S' N').0 (within_stays ((demand_3 S N).1 k))
       where
-        demand_3_at : (S N : ℕ) → (verdict (terms_of t) S N ≡ Within) ↔ Closes (terms_of t) S N
-        demand_3_at = rw (← terms_same s t one) demand_3
+        demand_3_at : (S N : ℕ) → (verdict (terms_of list t) S N ≡ Within) ↔ Closes (terms_of list t) S N
+        demand_3_at = rw (← terms_same list s t one) demand_3
 
     -- signs that say so stay as well
-    pub told_stays : {w v : List ℕ} → Tells within over w (terms_of s) S N → Tells within over v (terms_of t) S' N' → Stays w v
+    pub told_stays : {w v : List ℕ} → Tells within over w (terms_of list s) S N → Tells within over v (terms_of list t) S' N' → Stays w v
     told_stays a b = record {
       still_within = λ e. b.closes.1 (closes_stays (a.closes.0 e));
       not_over = λ e o. b.otherwise.0 o (closes_stays (a.closes.0 e));
     }
 
-    acid_falls : acid_exceedance (terms_of t) S' N' ≤ acid_exceedance (terms_of s) S N
-    acid_falls = rw (← terms_same s t one) (acid_less (terms_of s) site_bounds less_s less_n)
+    acid_falls : acid_exceedance (terms_of list t) S' N' ≤ acid_exceedance (terms_of list s) S N
+    acid_falls = rw (← terms_same list s t one) (acid_less (terms_of list s) site_bounds less_s less_n)
 
-    nutrient_falls : nutrient_exceedance (terms_of t) N' ≤ nutrient_exceedance (terms_of s) N
-    nutrient_falls = rw (← terms_same s t one) (nutrient_less (terms_of s) site_bounds less_s less_n)
+    nutrient_falls : nutrient_exceedance (terms_of list t) N' ≤ nutrient_exceedance (terms_of list s) N
+    nutrient_falls = rw (← terms_same list s t one) (nutrient_less (terms_of list s) site_bounds less_s less_n)
 
 -- less deposition is never worse
 pub never_worse : NeverWorse
-never_worse s t p l =
-    let says : Tells within over (verdict_word (verdict (terms_of t) t.sulphur t.nitrogen)) (terms_of t) t.sulphur t.nitrogen =
-    rw (← terms_same s t l.one) (word_tells s p t.sulphur t.nitrogen) in
+never_worse list s t p l =
+    let says : Tells within over (verdict_word (verdict (terms_of list t) t.sulphur t.nitrogen)) (terms_of list t) t.sulphur t.nitrogen =
+    rw (← terms_same list s t l.one) (word_tells list s p t.sulphur t.nitrogen) in
     record {
-      word = told_stays s p t l.one l.sulphur l.nitrogen (word_tells s p s.sulphur s.nitrogen) says;
-      acid = acid_falls s p t l.one l.sulphur l.nitrogen;
-      nutrient = nutrient_falls s p t l.one l.sulphur l.nitrogen;
+      word = told_stays list s p t l.one l.sulphur l.nitrogen (word_tells list s p s.sulphur s.nitrogen) says;
+      acid = acid_falls list s p t l.one l.sulphur l.nitrogen;
+      nutrient = nutrient_falls list s p t l.one l.sulphur l.nitrogen;
     }

@@ -1,5 +1,5 @@
 -- What an answer of the judgement says of its site.
-use Rattle.std.proofs.Common.{ℕ, ◌-◌, ◌≡◌, refl, ◌&&◌, arith, [], ◌∷◌, eqb, Ok, Err}
+use Rattle.std.proofs.Common.{ℕ, List, ◌-◌, ◌≡◌, refl, ◌&&◌, arith, [], ◌∷◌, eqb, Ok, Err}
 use Rattle.std.proofs.lemmas.Bool.Decides.{nat_tests}
 use Rattle.site.specs.Choice.{pick}
 use Rattle.site.specs.Check.{site_rule}
@@ -37,25 +37,25 @@ word_is : (t : Terms) (S N : ℕ) → verdict_word (verdict t S N) ≡ pick (eqb
 unfolding verdict verdict_of verdict_word
 word_is t S N = grind (arith, nat_tests)
 
-pub judged_values_lem : (s : Site) → judged_values (judged_of s) ≡ pair_values (terms_of s) s.sulphur s.nitrogen
+pub judged_values_lem : (list : List ℕ) (s : Site) → judged_values (judged_of list s) ≡ pair_values (terms_of list s) s.sulphur s.nitrogen
 unfolding judged_values judged_of loads_of load_numbers pair_values
-judged_values_lem s = rw (numbers_are (terms_of s) s.sulphur s.nitrogen, word_is (terms_of s) s.sulphur s.nitrogen)
+judged_values_lem list s = rw (numbers_are (terms_of list s) s.sulphur s.nitrogen, word_is (terms_of list s) s.sulphur s.nitrogen)
 
-module _ (s : Site) where
+module _ (list : List ℕ) (s : Site) where
   -- a site that passes the check is judged
-  pub judged_passing : site_rule s ≡ Ok tt → judgement_answer s ≡ Ok (judged_of s)
+  pub judged_passing : site_rule list s ≡ Ok tt → judgement_answer list s ≡ Ok (judged_of list s)
   unfolding judgement_answer and_then
   judged_passing p = rw p
 
-  pub judged_says : site_rule s ≡ Ok tt → Says (verdict_word (judged_of s).verdict) s
+  pub judged_says : site_rule list s ≡ Ok tt → Says list (verdict_word (judged_of list s).verdict) s
   unfolding judged_of
-  judged_says p = word_tells s p s.sulphur s.nitrogen
+  judged_says p = word_tells list s p s.sulphur s.nitrogen
 
   -- what an answer says of its site
-  pub judgement_given : (j : Judged) → judgement_answer s ≡ Ok j → (site_rule s ≡ Ok tt) × (j ≡ judged_of s)
+  pub judgement_given : (j : Judged) → judgement_answer list s ≡ Ok j → (site_rule list s ≡ Ok tt) × (j ≡ judged_of list s)
   unfolding judgement_answer
-  judgement_given = given_by_lem (site_rule s) (judged_of s)
+  judgement_given = given_by_lem (site_rule list s) (judged_of list s)
 
-  pub judgement_refused : (r : Rule) → judgement_answer s ≡ Err r → site_rule s ≡ Err r
+  pub judgement_refused : (r : Rule) → judgement_answer list s ≡ Err r → site_rule list s ≡ Err r
   unfolding judgement_answer
-  judgement_refused = refused_by (site_rule s) (judged_of s)
+  judgement_refused = refused_by (site_rule list s) (judged_of list s)

@@ -1,4 +1,4 @@
--- What the call answers for a site: its loads and the verdict on its own pair, or the rule that it breaks.
+-- What the call answers for a site with the list that is lent: its loads and the verdict on its own pair, or the rule that it breaks.
 use Rattle.std.specs.Prelude.{ℕ, ◌&&◌, List, ◌∷◌, ◌++◌, eqb, Result, Ok, Err}
 use Rattle.site.specs.Choice.{pick}
 use Rattle.site.specs.declared.Site.{Site}
@@ -12,12 +12,12 @@ use Rattle.judgement.specs.declared.Judged.{Judged}
 use Rattle.judgement.specs.Regions.{region_number}
 use Rattle.judgement.specs.Verdicts.{region, acid_exceedance, nutrient_exceedance, verdict, verdict_numbers, verdict_word, within, over}
 
--- the judgement of the site's own pair
-unfoldable pub judged_of : Site → Judged
-judged_of s = record { loads = loads_of (terms_of s); verdict = verdict (terms_of s) s.sulphur s.nitrogen }
+-- the judgement of the site's own pair, with the list
+unfoldable pub judged_of : List ℕ → Site → Judged
+judged_of list s = record { loads = loads_of (terms_of list s); verdict = verdict (terms_of list s) s.sulphur s.nitrogen }
 
-unfoldable pub judgement_answer : Site → Result Judged Rule
-judgement_answer s = and_then (site_rule s) (Ok (judged_of s))
+unfoldable pub judgement_answer : List ℕ → Site → Result Judged Rule
+judgement_answer list s = and_then (site_rule list s) (Ok (judged_of list s))
 
 -- the values of each case: the loads, region and exceedances, and the word's bytes; or the refusal's number and offset
 unfoldable pub judged_values : Judged → List ℕ

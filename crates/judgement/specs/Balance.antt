@@ -29,10 +29,10 @@ pub record Tells {A : Type 0} (first second x : A) (t : Terms) (S N : ℕ) : Typ
   pub closes : (x ≡ first) ↔ Closes t S N
   pub otherwise : (x ≡ second) ↔ (Closes t S N → ⊥)
 
--- a word, `within` or `over`, of a site and its own pair
-abbrev pub Says : List ℕ → Site → Type 0
-Says w s = Tells within over w (terms_of s) s.sulphur s.nitrogen
+-- a word, `within` or `over`, of a site with a list and of its own pair
+abbrev pub Says : (list w : List ℕ) → Site → Type 0
+Says list w s = Tells within over w (terms_of list s) s.sulphur s.nitrogen
 
 -- a mark, 0 within or 1 over
-abbrev pub MarkSays : ℕ → Site → Type 0
-MarkSays m s = Tells 0 1 m (terms_of s) s.sulphur s.nitrogen
+abbrev pub MarkSays : (list : List ℕ) → ℕ → Site → Type 0
+MarkSays list m s = Tells 0 1 m (terms_of list s) s.sulphur s.nitrogen

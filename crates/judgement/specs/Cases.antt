@@ -12,8 +12,8 @@ pub data Question : Type 0 where
   soil : (clay sand : ℕ) → Question  -- texture class
 
 unfoldable pub computed : Question → List ℕ
-computed (pair_of_a1 S N) = region_number (region (terms_of a1) S N) ∷ acid_exceedance (terms_of a1) S N ∷ []
-computed (nitrogen_of_a1 N) = nutrient_exceedance (terms_of a1) N ∷ []
+computed (pair_of_a1 S N) = region_number (region (terms_of [] a1) S N) ∷ acid_exceedance (terms_of [] a1) S N ∷ []
+computed (nitrogen_of_a1 N) = nutrient_exceedance (terms_of [] a1) N ∷ []
 computed (soil clay sand) = texture_of clay sand ∷ []
 
 pub record Case : Type 0 where

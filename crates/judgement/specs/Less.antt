@@ -18,11 +18,11 @@ pub record Stays (w v : List ℕ) : Type 0 where
   pub not_over : w ≡ within → v ≡ over → ⊥
 
 -- the word of t beside that of s, and both exceedances
-pub record NoWorse (s t : Site) : Type 0 where
-  pub word : Stays (verdict_word (verdict (terms_of s) s.sulphur s.nitrogen)) (verdict_word (verdict (terms_of t) t.sulphur t.nitrogen))
-  pub acid : acid_exceedance (terms_of t) t.sulphur t.nitrogen ≤ acid_exceedance (terms_of s) s.sulphur s.nitrogen
-  pub nutrient : nutrient_exceedance (terms_of t) t.nitrogen ≤ nutrient_exceedance (terms_of s) s.nitrogen
+pub record NoWorse (list : List ℕ) (s t : Site) : Type 0 where
+  pub word : Stays (verdict_word (verdict (terms_of list s) s.sulphur s.nitrogen)) (verdict_word (verdict (terms_of list t) t.sulphur t.nitrogen))
+  pub acid : acid_exceedance (terms_of list t) t.sulphur t.nitrogen ≤ acid_exceedance (terms_of list s) s.sulphur s.nitrogen
+  pub nutrient : nutrient_exceedance (terms_of list t) t.nitrogen ≤ nutrient_exceedance (terms_of list s) s.nitrogen
 
--- at every site that passes the check
+-- at every site that passes the check, with the list that is lent for both
 abbrev pub NeverWorse : Type 0
-NeverWorse = (s t : Site) → site_rule s ≡ Ok tt → Less s t → NoWorse s t
+NeverWorse = (list : List ℕ) (s t : Site) → site_rule list s ≡ Ok tt → Less s t → NoWorse list s t

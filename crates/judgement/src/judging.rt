@@ -10,7 +10,7 @@ ghost use Rattle.judgement.specs.Balance.{Says};
 
 use crate::position::Position;
 use crate::{Judged, Region, Verdict};
-use site::{Rule, Site};
+use site::{Rule, Site, SpeciesList};
 
 impl Position {
     // Within needs region 0 and nutrient exceedance 0.
@@ -33,12 +33,12 @@ impl Position {
 
 // The loads of a site and the verdict on its own pair, or the first rule that it breaks.
 #[tactic(auto, using(crate::proofs::JudgementAnswers::verdict_by_loads, crate::proofs::JudgementAnswers::judged_values_lem, crate::proofs::JudgementAnswers::judged_says), unfolding(crate::specs::Answers::judgement_answer, crate::specs::Answers::judgement_values, crate::specs::Answers::judged_of, site::specs::Refusal::values_if, site::specs::Refusal::and_then))]
-pub fn judge(site: Site) -> Result<Judged, Rule>
-    ensures answer { result ≡ judgement_answer site }
-    ensures values { judgement_values result ≡ values_if (site_rule site) (pair_values (terms_of site) site.sulphur site.nitrogen) }
-    ensures demand3 { (j : Judged) → result ≡ Ok j → Says (verdict_word j.verdict) site }
+pub fn judge(site: Site, list: SpeciesList<'_>) -> Result<Judged, Rule>
+    ensures answer { result ≡ judgement_answer list.entry.bytes.now site }
+    ensures values { judgement_values result ≡ values_if (site_rule list.entry.bytes.now site) (pair_values (terms_of list.entry.bytes.now site) site.sulphur site.nitrogen) }
+    ensures demand3 { (j : Judged) → result ≡ Ok j → Says list.entry.bytes.now (verdict_word j.verdict) site }
 {
-    let pair = Position::try_from(site)?;
+    let pair = Position::checked(site, list)?;
     Ok(Judged {
         loads: pair.loads,
         verdict: pair.verdict(),

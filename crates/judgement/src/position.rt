@@ -8,7 +8,7 @@ ghost use Rattle.loads.specs.MostTerms.{most_max_s};
 ghost use Rattle.judgement.specs.Regions.{D, excess};
 
 use loads::{Loads, critical_loads, undenitrified_at};
-use site::{Rule, Site};
+use site::{Rule, Site, SpeciesList};
 
 // The ghost fields keep every product of these within 64 bits.
 #[derive(Clone, Copy)]
@@ -25,15 +25,13 @@ pub struct Position {
     ghost no_more_left: { undenitrified ≤ 1000 },
 }
 
-// The position of a site's own pair, or the first rule that the site breaks.
-impl TryFrom<Site> for Position {
-    type Error = Rule;
-
-    ghost try_from_gives = { λ s r. MatchResult r (λ p. (site_rule s ≡ Ok tt) × (p.sulphur ≡ s.sulphur) × (p.nitrogen ≡ s.nitrogen) × (p.loads ≡ loads_of (terms_of s)) × (p.undenitrified ≡ (terms_of s).e)) (λ rule. site_rule s ≡ Err rule) };
-
-    #[tactic(auto, using(loads::proofs::DenitrifiedLaws::undenitrified_least, loads::proofs::DenitrifiedLaws::undenitrified_most, crate::proofs::AtSites::max_s_le), unfolding(loads::specs::CriticalLoads::loads_answer, site::specs::Refusal::and_then))]
-    fn try_from(site: Site) -> Result<Position, Rule> {
-        let loads = critical_loads(site)?;
+impl Position {
+    // The position of a site's own pair, or the first rule that the site breaks.
+    #[tactic(auto, using(loads::proofs::DenitrifiedLaws::undenitrified_least, loads::proofs::DenitrifiedLaws::undenitrified_most, loads::proofs::DenitrifiedLaws::e_is, crate::proofs::AtSites::max_s_le), unfolding(loads::specs::CriticalLoads::loads_answer, site::specs::Refusal::and_then))]
+    pub fn checked(site: Site, list: SpeciesList<'_>) -> Result<Position, Rule>
+        ensures { let l = list.entry.bytes.now in MatchResult result (λ p. (site_rule l site ≡ Ok tt) × (p.sulphur ≡ site.sulphur) × (p.nitrogen ≡ site.nitrogen) × (p.loads ≡ loads_of (terms_of l site)) × (p.undenitrified ≡ (terms_of l site).e)) (λ rule. site_rule l site ≡ Err rule) }
+    {
+        let loads = critical_loads(site, list)?;
         Ok(Position {
             sulphur: u64::from(site.sulphur),
             nitrogen: u64::from(site.nitrogen),
@@ -41,9 +39,7 @@ impl TryFrom<Site> for Position {
             undenitrified: undenitrified_at(site),
         })
     }
-}
 
-impl Position {
     // n = N − CLminN, or 0 where that is less
     pub fn left(self) -> u64
         ensures { (result ≡ self.nitrogen - self.loads.min_n) × (result ≤ deposition_range.most) }

@@ -25,4 +25,4 @@ cases =
 
 -- what the definitions give for a ceiling
 abbrev pub computed : (ceiling : ℕ) → LevelCase
-computed h = let t = terms_of (a1_with h) in record { ceiling = h; compared = levels_compared t; level = greatest_level t }
+computed h = let t = terms_of [] (a1_with h) in record { ceiling = h; compared = levels_compared t; level = greatest_level t }

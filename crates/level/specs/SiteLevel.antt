@@ -1,5 +1,5 @@
 -- What the search answers at a site.
-use Rattle.std.specs.Prelude.{Result, Ok}
+use Rattle.std.specs.Prelude.{ℕ, List, Result, Ok}
 use Rattle.site.specs.declared.Site.{Site}
 use Rattle.site.specs.declared.Rule.{Rule}
 use Rattle.site.specs.Check.{site_rule}
@@ -8,5 +8,5 @@ use Rattle.loads.specs.declared.Searched.{Searched}
 use Rattle.loads.specs.SiteTerms.{terms_of}
 use Rattle.loads.specs.Search.{searched_at}
 
-unfoldable pub site_level : Site → Result Searched Rule
-site_level s = and_then (site_rule s) (Ok (searched_at (terms_of s)))
+unfoldable pub site_level : List ℕ → Site → Result Searched Rule
+site_level list s = and_then (site_rule list s) (Ok (searched_at (terms_of list s)))

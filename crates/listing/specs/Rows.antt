@@ -1,4 +1,4 @@
--- What a line of the listing shows of a site, and what the walk over a file answers.
+-- What a line of the listing shows of a site with the list that is lent, and what the walk over a file answers.
 use Rattle.std.specs.Prelude.{ℕ, List, map, Result, Ok, Err}
 use Rattle.site.specs.declared.Refusal.{Refusal}
 use Rattle.site.specs.declared.Site.{Site}
@@ -12,15 +12,15 @@ use Rattle.record.specs.File.{Contents}
 unfoldable pub row_by : Site → Judged → Row
 row_by s j = record { loads = j.loads; name = s.name; verdict = j.verdict }
 
-unfoldable pub row_of : Site → Row
-row_of s = row_by s (judged_of s)
+unfoldable pub row_of : List ℕ → Site → Row
+row_of list s = row_by s (judged_of list s)
 
 -- a step of the walk: what stands at an offset of a file, as a row
-unfoldable pub step_of : Result (Site × ℕ) Refusal → Result Step Refusal
-step_of (Ok x) = Ok (record { row = row_of x.0; next = x.1 })
-step_of (Err r) = Err r
+unfoldable pub step_of : List ℕ → Result (Site × ℕ) Refusal → Result Step Refusal
+step_of list (Ok x) = Ok (record { row = row_of list x.0; next = x.1 })
+step_of list (Err r) = Err r
 
 -- the rows of a file, or its first fault
-unfoldable pub walked_of : Contents Site → Result (List Row) Refusal
-walked_of (Ok ss) = Ok (map row_of ss)
-walked_of (Err r) = Err r
+unfoldable pub walked_of : List ℕ → Contents Site → Result (List Row) Refusal
+walked_of list (Ok ss) = Ok (map (row_of list) ss)
+walked_of list (Err r) = Err r

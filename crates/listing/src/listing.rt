@@ -8,17 +8,17 @@ ghost use Rattle.listing.specs.Reports.{listing_of};
 ghost use Rattle.listing.specs.PrintedDemand3.{WrittenDemand3};
 
 use crate::walking::walk_file;
-use site::Refusal;
+use site::{Refusal, SpeciesList};
 use text::put_listing;
 
 // Nothing is written before the last record is checked and the length is known to fit.
-pub fn list(file: &[u8], out: &mut [u8]) -> Result<usize, Refusal>
-    ensures answer { result ≡ file_answer listing_of (contents file.now) out.old }
-    ensures buffer { out.new ≡ file_held listing_of (contents file.now) out.old }
-    ensures numbers { written_numbers result ≡ file_numbers listing_of (contents file.now) out.old }
-    ensures enough { FileRoom most_text listing_of (contents file.now) out.old result }
-    ensures demand3 { WrittenDemand3 file.now out.new result }
+pub fn list(file: &[u8], species: SpeciesList<'_>, out: &mut [u8]) -> Result<usize, Refusal>
+    ensures answer { result ≡ file_answer (listing_of species.entry.bytes.now) (contents species.entry.bytes.now file.now) out.old }
+    ensures buffer { out.new ≡ file_held (listing_of species.entry.bytes.now) (contents species.entry.bytes.now file.now) out.old }
+    ensures numbers { written_numbers result ≡ file_numbers (listing_of species.entry.bytes.now) (contents species.entry.bytes.now file.now) out.old }
+    ensures enough { FileRoom most_text (listing_of species.entry.bytes.now) (contents species.entry.bytes.now file.now) out.old result }
+    ensures demand3 { WrittenDemand3 species.entry.bytes.now file.now out.new result }
 {
-    let rows = walk_file(file)?;
+    let rows = walk_file(file, species)?;
     put_listing(out, &rows)
 }

@@ -8,7 +8,7 @@ ghost use Rattle.listing.specs.Rows.{row_by, walked_of, step_of};
 use arrayvec::ArrayVec;
 use judgement::{Judged, judge};
 use record::{Found, read_at};
-use site::{Refusal, Rule, Site};
+use site::{Refusal, Rule, Site, SpeciesList};
 use text::Row;
 
 // The row of a record, and the offset after it: as `Found` of `record`, whose field is called `site`.
@@ -29,20 +29,20 @@ fn row_by(site: Site, judged: Judged) -> Row
     }
 }
 
-fn row_at(file: &[u8], at: usize) -> Result<Step, Refusal>
-    ensures { result ≡ step_of (site_at file.now at) }
+fn row_at(file: &[u8], at: usize, list: SpeciesList<'_>) -> Result<Step, Refusal>
+    ensures { result ≡ step_of list.entry.bytes.now (site_at list.entry.bytes.now file.now at) }
 {
-    let Found { site, next } = read_at(file, at)?;
+    let Found { site, next } = read_at(file, at, list)?;
     // a site that was read passes the check
-    let judged = judge(site).map_err(|rule| Refusal { rule, at })?;
+    let judged = judge(site, list).map_err(|rule| Refusal { rule, at })?;
     let row = row_by(site, judged);
     Ok(Step { row, next })
 }
 
 // The rows of a file, or its first fault.
-pub fn walk_file(file: &[u8]) -> Result<ArrayVec<Row, 500>, Refusal>
-    ensures answer { MatchResult result (λ rows. walked_of (contents file.now) ≡ Ok rows.items) (λ refusal. walked_of (contents file.now) ≡ Err refusal) }
-    ensures numbers { result_numbers result ≡ result_numbers (contents file.now) }
+pub fn walk_file(file: &[u8], list: SpeciesList<'_>) -> Result<ArrayVec<Row, 500>, Refusal>
+    ensures answer { let l = list.entry.bytes.now in MatchResult result (λ rows. walked_of l (contents l file.now) ≡ Ok rows.items) (λ refusal. walked_of l (contents l file.now) ≡ Err refusal) }
+    ensures numbers { result_numbers result ≡ result_numbers (contents list.entry.bytes.now file.now) }
 {
     if file.is_empty() {
         return Err(Rule::NoBytes.into());
@@ -55,7 +55,7 @@ pub fn walk_file(file: &[u8]) -> Result<ArrayVec<Row, 500>, Refusal>
             let rule = Rule::TooMany;
             return Err(Refusal { rule, at });
         }
-        let Step { row, next } = row_at(file, at)?;
+        let Step { row, next } = row_at(file, at, list)?;
         rows.push(row);
         at = next;
     }

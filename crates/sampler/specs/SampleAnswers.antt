@@ -23,17 +23,17 @@ keyed p (Ok j) = Ok (record { pair = p; judged = j })
 keyed p (Err rule) = Err (record { rule = rule; at = 0 })
 
 -- the year's pair as when entered by key, or the year's refusal
-unfoldable pub year_answer : Site → Result Pair Refusal → Result Sampled Refusal
-year_answer s (Ok p) = keyed p (judgement_answer (with_pair s p))
-year_answer s (Err refusal) = Err refusal
+unfoldable pub year_answer : List ℕ → Site → Result Pair Refusal → Result Sampled Refusal
+year_answer list s (Ok p) = keyed p (judgement_answer list (with_pair s p))
+year_answer list s (Err refusal) = Err refusal
 
-unfoldable pub sample_answer : Site → List Month → Result Sampled Refusal
-sample_answer s ms = unless (site_rule s) 0 (year_answer s (year_of ms))
+unfoldable pub sample_answer : List ℕ → Site → List Month → Result Sampled Refusal
+sample_answer list s ms = unless (site_rule list s) 0 (year_answer list s (year_of ms))
 
 -- what is given: the pair of the months, and the judgement of the same site with this pair put into its field 0F
-pub record ByKey (s : Site) (ms : List Month) (p : Sampled) : Type 0 where
+pub record ByKey (list : List ℕ) (s : Site) (ms : List Month) (p : Sampled) : Type 0 where
   pub pair : year_of ms ≡ Ok p.pair
-  pub judgement : judgement_answer (with_pair s p.pair) ≡ Ok p.judged
+  pub judgement : judgement_answer list (with_pair s p.pair) ≡ Ok p.judged
 
 -- the values of each case: the pair, and the judgement's values; or the refusal's number and offset
 unfoldable pub sample_values : Result Sampled Refusal → List ℕ
