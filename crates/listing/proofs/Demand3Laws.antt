@@ -30,9 +30,9 @@ use Rattle.listing.specs.PrintedDemand3.{LinesSay}
 use Rattle.listing.specs.Rows.{row_by, row_of}
 use Rattle.site.proofs.MapLaws.{get_d_map}
 
-pub says : (s : Site) → site_rule s ≡ Ok tt → Says (verdict_word (row_of s).verdict) s
+pub says : (list : List ℕ) (s : Site) → site_rule list s ≡ Ok tt → Says list (verdict_word (row_of list s).verdict) s
 unfolding row_of row_by
-says s p = judged_says s p
+says list s p = judged_says list s p
 
 -- a name has none of the bytes that are not a name's, so no 0A and no space
 name_free : (b : ℕ) → name_byte b ≡ false → (xs : List ℕ) → list_all name_byte xs ≡ true → free b xs ≡ true
@@ -42,9 +42,9 @@ name_free b n (x ∷ xs) e =
     let first = and_l (name_byte x) (list_all name_byte xs) e in
     free-cons b x xs (λ q. false≢true (sym n ∙ ap name_byte (sym q) ∙ first)) (name_free b n xs (and_r (name_byte x) (list_all name_byte xs) e))
 
-pub site_name_free : (b : ℕ) → name_byte b ≡ false → (s : Site) → site_rule s ≡ Ok tt → free b (name_text (row_of s)) ≡ true
+pub site_name_free : (b : ℕ) → name_byte b ≡ false → (list : List ℕ) (s : Site) → site_rule list s ≡ Ok tt → free b (name_text (row_of list s)) ≡ true
 unfolding row_of row_by name_text value_rule
-site_name_free b n s p = name_free b n _ (ranged_passed _ (site_passed s p 1 (omega arith) (omega arith)).1)
+site_name_free b n list s p = name_free b n _ (ranged_passed _ (site_passed list s p 1 (omega arith) (omega arith)).1)
 
 no_end : name_byte 10 ≡ false
 unfolding name_byte
@@ -55,23 +55,23 @@ unfolding name_byte
 no_space = refl
 
 -- demand 3 in the listing
-module _ (f : List ℕ) (ss : List Site) (e : contents f ≡ Ok ss) where
-  pub passed : (k : ℕ) → k < length ss → site_rule (get_or ss k blank_site) ≡ Ok tt
-  passed k h = all_at (sites_checked f ss e).1 k blank_site h
+module _ (list f : List ℕ) (ss : List Site) (e : contents list f ≡ Ok ss) where
+  pub passed : (k : ℕ) → k < length ss → site_rule list (get_or ss k blank_site) ≡ Ok tt
+  passed k h = all_at (sites_checked list f ss e).1 k blank_site h
 
-  pub row_at : (k : ℕ) → k < length ss → get_or (map row_of ss) k blank_row ≡ row_of (get_or ss k blank_site)
-  row_at k h = get_d_map row_of ss k blank_site blank_row h
+  pub row_at : (k : ℕ) → k < length ss → get_or (map (row_of list) ss) k blank_row ≡ row_of list (get_or ss k blank_site)
+  row_at k h = get_d_map (row_of list) ss k blank_site blank_row h
 
-  pub plain : Plain (map row_of ss)
-  plain k l = let h : k < length ss = omega (arith, length-map ss row_of) in rw (row_at k h) (site_name_free 10 no_end _ (passed k h))
+  pub plain : Plain (map (row_of list) ss)
+  plain k l = let h : k < length ss = omega (arith, length-map ss (row_of list)) in rw (row_at k h) (site_name_free 10 no_end list _ (passed k h))
 
-  line_says : (k : ℕ) → k < length ss → Says (last_word (line_at (suc k) (listing (map row_of ss)))) (get_or ss k blank_site)
-  line_says k h = rw (mark_of (map row_of ss) k plain (omega (arith, length-map ss row_of)), row_at k h) (says (get_or ss k blank_site) (passed k h))
+  line_says : (k : ℕ) → k < length ss → Says list (last_word (line_at (suc k) (listing (map (row_of list) ss)))) (get_or ss k blank_site)
+  line_says k h = rw (mark_of (map (row_of list) ss) k plain (omega (arith, length-map ss (row_of list))), row_at k h) (says list (get_or ss k blank_site) (passed k h))
 
-  pub listing_says : LinesSay ss (listing (map row_of ss))
+  pub listing_says : LinesSay list ss (listing (map (row_of list) ss))
   listing_says = record {
-    lines = omega (arith, line_count (map row_of ss) plain, length-map ss row_of);
-    header = line-header (map row_of ss) plain;
-    nothing_behind = rw (← length-map ss row_of) (line_behind (map row_of ss) plain);
+    lines = omega (arith, line_count (map (row_of list) ss) plain, length-map ss (row_of list));
+    header = line-header (map (row_of list) ss) plain;
+    nothing_behind = rw (← length-map ss (row_of list)) (line_behind (map (row_of list) ss) plain);
     says = line_says;
   }

@@ -28,89 +28,89 @@ use Rattle.listing.proofs.Demand3Laws.{listing_says}
 -- ---- what the walk has found
 
 -- the rows are those of the sites that the file holds
-pub record Filled (rows : List Row) (c : Contents Site) : Type 0 where
+pub record Filled (list : List ℕ) (rows : List Row) (c : Contents Site) : Type 0 where
   pub ss : List Site
   pub holds : c ≡ Ok ss
-  pub lines : rows ≡ map row_of ss
+  pub lines : rows ≡ map (row_of list) ss
 
-pub found_sites : (c : Contents Site) {rows : List Row} → walked_of c ≡ Ok rows → Filled rows c
+pub found_sites : (list : List ℕ) (c : Contents Site) {rows : List Row} → walked_of list c ≡ Ok rows → Filled list rows c
 unfolding walked_of
-found_sites (Ok ss) {rows} e = let same : map row_of ss ≡ rows = cc in record { ss = ss; holds = refl; lines = sym same }
-found_sites (Err r) e = cc
+found_sites list (Ok ss) {rows} e = let same : map row_of ss ≡ rows = cc in record { ss = ss; holds = refl; lines = sym same }
+found_sites list (Err r) e = cc
 
-pub found_fault : (c : Contents Site) {r : Refusal} → walked_of c ≡ Err r → c ≡ Err r
+pub found_fault : (list : List ℕ) (c : Contents Site) {r : Refusal} → walked_of list c ≡ Err r → c ≡ Err r
 unfolding walked_of
-found_fault (Ok ss) e = cc
-found_fault (Err k) e = cc
+found_fault list (Ok ss) e = cc
+found_fault list (Err k) e = cc
 
 -- what a call has written of the rows, by the sites
-pub by_sites : (f d : List ℕ) {rows xs : List Row} {e : List ℕ} {r : Written} (x : Filled rows (contents f)) → xs ≡ rows
-    → r ≡ text_answer (listing xs) d → e ≡ held (listing xs) d → (length xs ≤ 500 → RoomEnough (listing xs) d r) → Answered (listing (map row_of x.ss)) d e r
-by_sites f d x same a b enough =
+pub by_sites : (list f d : List ℕ) {rows xs : List Row} {e : List ℕ} {r : Written} (x : Filled list rows (contents list f)) → xs ≡ rows
+    → r ≡ text_answer (listing xs) d → e ≡ held (listing xs) d → (length xs ≤ 500 → RoomEnough (listing xs) d r) → Answered (listing (map (row_of list) x.ss)) d e r
+by_sites list f d x same a b enough =
     let lines = same ∙ x.lines in
-    let few : length (map row_of x.ss) ≤ 500 = omega (arith, (sites_checked f x.ss x.holds).0, length-map x.ss row_of) in
-    answered (listing (map row_of x.ss)) d (rw lines at a) (rw lines at b) ((rw lines at enough) few).bounded
+    let few : length (map (row_of list) x.ss) ≤ 500 = omega (arith, (sites_checked list f x.ss x.holds).0, length-map x.ss (row_of list)) in
+    answered (listing (map (row_of list) x.ss)) d (rw lines at a) (rw lines at b) ((rw lines at enough) few).bounded
 
 -- ---- a text of the sites, and the listing
 
 -- a text of the sites of a file, of at most `most` bytes, that says `Say` of them: a listing of any form
-module _ (most : ℕ) (text : List Site → List ℕ) (Say : List Site → List ℕ → Type 0) (f d : List ℕ) where
+module _ (most : ℕ) (text : List Site → List ℕ) (Say : List ℕ → List Site → List ℕ → Type 0) (list f d : List ℕ) where
   -- the clauses of the call that writes it
   abbrev pub FileClauses : List ℕ → Written → Type 0
   FileClauses e r =
-      (r ≡ file_answer text (contents f) d)
-      × ((e ≡ file_held text (contents f) d) × ((written_numbers r ≡ file_numbers text (contents f) d) × (FileRoom most text (contents f) d r × WrittenSays Say f e r)))
+      (r ≡ file_answer text (contents list f) d)
+      × ((e ≡ file_held text (contents list f) d) × ((written_numbers r ≡ file_numbers text (contents list f) d) × (FileRoom most text (contents list f) d r × WrittenSays Say list f e r)))
 
-  module _ (ss : List Site) (h : contents f ≡ Ok ss) {e : List ℕ} {r : Written} (a : AnsweredWithin most (text ss) d e r) where
-    enough : FileRoom most text (contents f) d r
+  module _ (ss : List Site) (h : contents list f ≡ Ok ss) {e : List ℕ} {r : Written} (a : AnsweredWithin most (text ss) d e r) where
+    enough : FileRoom most text (contents list f) d r
     enough ts g = let same : ss ≡ ts = cc in rw (← same) a.enough
 
-    says_so : Say ss (text ss) → WrittenSays Say f e r
+    says_so : Say list ss (text ss) → WrittenSays Say list f e r
     says_so says n b ts g = let same : ss ≡ ts = cc in rw (written (text ss) d e r a.answer a.buffer n b, ← same) says
 
-    pub filed_sites : Say ss (text ss) → FileClauses e r
+    pub filed_sites : Say list ss (text ss) → FileClauses e r
     unfolding file_answer file_held file_numbers
     filed_sites says = (rw h a.answer, (rw h a.buffer, (rw h a.numbers, (enough, says_so says))))
 
-  pub filed_fault : {k : Refusal} → contents f ≡ Err k → FileClauses d (Err k)
+  pub filed_fault : {k : Refusal} → contents list f ≡ Err k → FileClauses d (Err k)
   unfolding file_answer file_held file_numbers written_numbers
   filed_fault h = (rw h, (rw h, (rw h, (λ ss g. (let z = sym h ∙ g in cc), λ n b. cc))))
 
   -- no text is longer than the longest
-  pub file_count : {n : ℕ} → file_answer text (contents f) d ≡ Ok n → FileRoom most text (contents f) d (Ok n) → n ≤ most
+  pub file_count : {n : ℕ} → file_answer text (contents list f) d ≡ Ok n → FileRoom most text (contents list f) d (Ok n) → n ≤ most
   unfolding file_answer
-  file_count {n} is room = by_contents (contents f) refl is
+  file_count {n} is room = by_contents (contents list f) refl is
     where
-      by_contents : (c : Contents Site) → contents f ≡ c → file_answer text c d ≡ Ok n → n ≤ most
+      by_contents : (c : Contents Site) → contents list f ≡ c → file_answer text c d ≡ Ok n → n ≤ most
       by_contents (Ok ss) q e = omega (arith, count_is _ _ e, (room ss q).bounded)
       by_contents (Err k) q e = cc
 
   -- no refusal lies past 500 records of the greatest length
-  pub file_fault_near : {k : Refusal} → file_answer text (contents f) d ≡ Err k → k.at ≤ most_record * most_records
+  pub file_fault_near : {k : Refusal} → file_answer text (contents list f) d ≡ Err k → k.at ≤ most_record * most_records
   unfolding file_answer
-  file_fault_near {k} e = by_contents (contents f) refl e
+  file_fault_near {k} e = by_contents (contents list f) refl e
     where
-      by_contents : (c : Contents Site) → contents f ≡ c → file_answer text c d ≡ Err k → k.at ≤ most_record * most_records
+      by_contents : (c : Contents Site) → contents list f ≡ c → file_answer text c d ≡ Err k → k.at ≤ most_record * most_records
       by_contents (Ok ss) q e = omega (arith, refused_at_0 _ _ e)
-      by_contents (Err j) q e = let same : j ≡ k = cc in rw (← same) (sites_fault_near f q)
+      by_contents (Err j) q e = let same : j ≡ k = cc in rw (← same) (sites_fault_near list f q)
 
 -- the listing
-pub listed_sites : (f d : List ℕ) {e : List ℕ} {r : Written} (ss : List Site) → contents f ≡ Ok ss → Answered (listing_of ss) d e r → FileClauses most_text listing_of LinesSay f d e r
-listed_sites f d ss h a = filed_sites most_text listing_of LinesSay f d ss h a (listing_says f ss h)
+pub listed_sites : (list f d : List ℕ) {e : List ℕ} {r : Written} (ss : List Site) → contents list f ≡ Ok ss → Answered (listing_of list ss) d e r → FileClauses most_text (listing_of list) LinesSay list f d e r
+listed_sites list f d ss h a = filed_sites most_text (listing_of list) LinesSay list f d ss h a (listing_says list f ss h)
 
 -- ---- the report
 
 -- the clauses of the call that reports
-abbrev pub Reported : List ℕ → List ℕ → List ℕ → Written → Type 0
-Reported f d e r = Clauses (report_of f) d e r (RoomEnough (report_of f) d r × WrittenDemand3 f e r)
+abbrev pub Reported : (list f d e : List ℕ) → Written → Type 0
+Reported list f d e r = Clauses (report_of list f) d e r (RoomEnough (report_of list f) d r × WrittenDemand3 list f e r)
 
-reported : (f d : List ℕ) {e : List ℕ} {r : Written} → Answered (report_of f) d e r → WrittenDemand3 f e r → Reported f d e r
-reported f d a w = clauses_then a w
+reported : (list f d : List ℕ) {e : List ℕ} {r : Written} → Answered (report_of list f) d e r → WrittenDemand3 list f e r → Reported list f d e r
+reported list f d a w = clauses_then a w
 
-pub reported_sites : (f d : List ℕ) {e : List ℕ} {r : Written} (ss : List Site) → contents f ≡ Ok ss → Answered (listing (map row_of ss)) d e r → Reported f d e r
+pub reported_sites : (list f d : List ℕ) {e : List ℕ} {r : Written} (ss : List Site) → contents list f ≡ Ok ss → Answered (listing (map row_of ss)) d e r → Reported list f d e r
 unfolding report_of printed
-reported_sites f d ss h a = reported f d (rw h a) (says_so most_text listing_of LinesSay f d ss h a (listing_says f ss h))
+reported_sites list f d ss h a = reported list f d (rw h a) (says_so most_text (listing_of list) LinesSay list f d ss h a (listing_says list f ss h))
 
-pub reported_fault : (f d : List ℕ) {e : List ℕ} {r : Written} {k : Refusal} → contents f ≡ Err k → Clauses (refusal k.rule k.at) d e r (RoomEnough (refusal k.rule k.at) d r) → Reported f d e r
+pub reported_fault : (list f d : List ℕ) {e : List ℕ} {r : Written} {k : Refusal} → contents list f ≡ Err k → Clauses (refusal k.rule k.at) d e r (RoomEnough (refusal k.rule k.at) d r) → Reported list f d e r
 unfolding report_of printed
-reported_fault f d h a = reported f d (rw h (by_clauses a)) (λ n b ss g. (let z = sym h ∙ g in cc))
+reported_fault list f d h a = reported list f d (rw h (by_clauses a)) (λ n b ss g. (let z = sym h ∙ g in cc))

@@ -16,26 +16,26 @@ use Rattle.listing.specs.PrintedDemand3.{Demand3, MarksNeverWorse, PrintedNeverW
 use Rattle.listing.proofs.Demand3Laws.{passed, listing_says}
 
 -- demand 3 in what is printed
-pub report_says : (f : List ℕ) → Demand3 f (report_of f)
+pub report_says : (list f : List ℕ) → Demand3 list f (report_of list f)
 unfolding report_of printed
-report_says f ss e = rw e (listing_says f ss e)
+report_says list f ss e = rw e (listing_says list f ss e)
 
 -- bytes past those that are looked at change nothing of what is printed
-pub report_take : (f : List ℕ) (m : ℕ) → most_file ≤ m → report_of (take m f) ≡ report_of f
+pub report_take : (list f : List ℕ) (m : ℕ) → most_file ≤ m → report_of list (take m f) ≡ report_of list f
 unfolding report_of
-report_take f m h = ap printed (sites_more f m h)
+report_take list f m h = ap (printed list) (sites_more list f m h)
 
 -- less deposition is never worse, in all texts of which demand 3 holds, however the marks are read
-abbrev MarksSay : (ℕ → List ℕ → List ℕ) → List ℕ → List ℕ → Type 0
-MarksSay mark f x = (ss : List Site) → contents f ≡ Ok ss → (k : ℕ) → k < length ss → Says (mark k x) (get_or ss k blank_site)
+abbrev MarksSay : (ℕ → List ℕ → List ℕ) → (list f x : List ℕ) → Type 0
+MarksSay mark list f x = (ss : List Site) → contents list f ≡ Ok ss → (k : ℕ) → k < length ss → Says list (mark k x) (get_or ss k blank_site)
 
-pub marks_stay : (mark : ℕ → List ℕ → List ℕ) (f x g y : List ℕ) → MarksSay mark f x → MarksSay mark g y → MarksNeverWorse mark f x g y
-marks_stay mark f x g y df dg ss ts hf hg k l kl ll less =
-    told_stays (get_or ss k blank_site) (passed f ss hf k kl) (get_or ts l blank_site) less.one less.sulphur less.nitrogen (df ss hf k kl) (dg ts hg l ll)
+pub marks_stay : (mark : ℕ → List ℕ → List ℕ) (list f x g y : List ℕ) → MarksSay mark list f x → MarksSay mark list g y → MarksNeverWorse mark list f x g y
+marks_stay mark list f x g y df dg ss ts hf hg k l kl ll less =
+    told_stays list (get_or ss k blank_site) (passed list f ss hf k kl) (get_or ts l blank_site) less.one less.sulphur less.nitrogen (df ss hf k kl) (dg ts hg l ll)
 
-pub texts_stay : (f x g y : List ℕ) → Demand3 f x → Demand3 g y → PrintedNeverWorse f x g y
-texts_stay f x g y df dg = marks_stay (λ (k : ℕ) (t : List ℕ). last_word (line_at (suc k) t)) f x g y (λ ss h. (df ss h).says) (λ ss h. (dg ss h).says)
+pub texts_stay : (list f x g y : List ℕ) → Demand3 list f x → Demand3 list g y → PrintedNeverWorse list f x g y
+texts_stay list f x g y df dg = marks_stay (λ (k : ℕ) (t : List ℕ). last_word (line_at (suc k) t)) list f x g y (λ ss h. (df ss h).says) (λ ss h. (dg ss h).says)
 
 -- and so in what is printed
-pub report_stays : (f g : List ℕ) → PrintedNeverWorse f (report_of f) g (report_of g)
-report_stays f g = texts_stay f (report_of f) g (report_of g) (report_says f) (report_says g)
+pub report_stays : (list f g : List ℕ) → PrintedNeverWorse list f (report_of list f) g (report_of list g)
+report_stays list f g = texts_stay list f (report_of list f) g (report_of list g) (report_says list f) (report_says list g)

@@ -1,6 +1,7 @@
 -- What a record's line shows: the loads of its site, and the region and both exceedances of its own pair, also where it is within.
 use mathlib.Core.Path.{◌≡◌}
-use mathlib.Core.List.{[], ◌∷◌}
+use mathlib.Core.List.{List, [], ◌∷◌}
+use Prim.Native.Nat.{ℕ}
 use Rattle.site.specs.declared.Site.{Site}
 use Rattle.loads.specs.SiteTerms.{terms_of}
 use Rattle.loads.specs.CriticalLoads.{cl_max_s, cl_min_n, cl_max_n, cl_nut_n, loads_of, load_numbers}
@@ -11,8 +12,8 @@ use Rattle.judgement.proofs.JudgementAnswers.{numbers_are}
 use Rattle.text.specs.Line.{numbers_of}
 use Rattle.listing.specs.Rows.{row_by, row_of}
 
-pub row_numbers : (s : Site) → let t = terms_of s in
-    numbers_of (row_of s)
+pub row_numbers : (list : List ℕ) (s : Site) → let t = terms_of list s in
+    numbers_of (row_of list s)
     ≡ cl_max_s t ∷ cl_min_n t ∷ cl_max_n t ∷ cl_nut_n t ∷ region_number (region t s.sulphur s.nitrogen) ∷ acid_exceedance t s.sulphur s.nitrogen ∷ nutrient_exceedance t s.nitrogen ∷ []
 unfolding numbers_of load_numbers loads_of row_of row_by judged_of
-row_numbers s = rw (numbers_are (terms_of s) s.sulphur s.nitrogen)
+row_numbers list s = rw (numbers_are (terms_of list s) s.sulphur s.nitrogen)

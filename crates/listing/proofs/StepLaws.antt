@@ -15,37 +15,38 @@ use Rattle.record.proofs.Place.{record_ok, record_err, site_passes}
 use Rattle.listing.specs.declared.walking.Step.{Step}
 use Rattle.listing.specs.Rows.{row_by, row_of, step_of}
 
-module _ (f : List ℕ) (at : ℕ) where
-  pub step_refused : {r : Refusal} → record_at f at ≡ Err r → step_of (site_at f at) ≡ Err r
+module _ (list f : List ℕ) (at : ℕ) where
+  pub step_refused : {r : Refusal} → record_at list f at ≡ Err r → step_of list (site_at list f at) ≡ Err r
   unfolding step_of
-  step_refused e = rw (record_err f at e)
+  step_refused e = rw (record_err list f at e)
 
-  module _ {x : Found} (is : record_at f at ≡ Ok x) where
-    read_judged : judgement_answer x.site ≡ Ok (judged_of x.site)
-    read_judged = judged_passing x.site (site_passes f at (record_ok f at is))
+  module _ {x : Found} (is : record_at list f at ≡ Ok x) where
+    read_judged : judgement_answer list x.site ≡ Ok (judged_of list x.site)
+    read_judged = judged_passing list x.site (site_passes list f at (record_ok list f at is))
 
     -- a site that was read is judged
-    pub is_judged : {r : Rule} {P : Type 0} → judgement_answer x.site ≡ Err r → P
+    pub is_judged : {r : Rule} {P : Type 0} → judgement_answer list x.site ≡ Err r → P
     is_judged e = let q = sym e ∙ read_judged in cc
 
-    pub step_made : {j : Judged} → judgement_answer x.site ≡ Ok j → step_of (site_at f at) ≡ Ok (record { row = row_by x.site j; next = x.next })
+    pub step_made : {j : Judged} → judgement_answer list x.site ≡ Ok j → step_of list (site_at list f at) ≡ Ok (record { row = row_by x.site j; next = x.next })
     unfolding step_of row_of
-    step_made {j} e = let q : judged_of x.site ≡ j = (let p = sym read_judged ∙ e in cc) in rw (record_ok f at is, q)
+    step_made {j} e = let q : judged_of list x.site ≡ j = (let p = sym read_judged ∙ e in cc) in rw (record_ok list f at is, q)
 
 -- what a step says of the record
-pub step_err : (q : Result (Site × ℕ) Refusal) {r : Refusal} → step_of q ≡ Err r → q ≡ Err r
-unfolding step_of
-step_err (Ok x) e = cc
-step_err (Err k) e = cc
+module _ (list : List ℕ) where
+  pub step_err : (q : Result (Site × ℕ) Refusal) {r : Refusal} → step_of list q ≡ Err r → q ≡ Err r
+  unfolding step_of
+  step_err (Ok x) e = cc
+  step_err (Err k) e = cc
 
-pub record StepOf (q : Result (Site × ℕ) Refusal) (t : Step) : Type 0 where
-  pub site : Site
-  pub is : q ≡ Ok (site, t.next)
-  pub row : t.row ≡ row_of site
+  pub record StepOf (q : Result (Site × ℕ) Refusal) (t : Step) : Type 0 where
+    pub site : Site
+    pub is : q ≡ Ok (site, t.next)
+    pub row : t.row ≡ row_of list site
 
-pub step_ok : (q : Result (Site × ℕ) Refusal) {t : Step} → step_of q ≡ Ok t → StepOf q t
-unfolding step_of
-step_ok (Ok x) {t} e =
-    let same : record { row = row_of x.0; next = x.1 } ≡ t = cc in
-    rw (← same) (record { site = x.0; is = refl; row = refl })
-step_ok (Err k) e = cc
+  pub step_ok : (q : Result (Site × ℕ) Refusal) {t : Step} → step_of list q ≡ Ok t → StepOf q t
+  unfolding step_of
+  step_ok (Ok x) {t} e =
+      let same : record { row = row_of list x.0; next = x.1 } ≡ t = cc in
+      rw (← same) (record { site = x.0; is = refl; row = refl })
+  step_ok (Err k) e = cc

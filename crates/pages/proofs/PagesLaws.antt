@@ -85,32 +85,32 @@ module _ (rs : List Row) (names : Plain rs) where
       ap (λ (t : List (List ℕ)). get_or t i []) split-pages
       ∙ get_or-append (all_lines rs) ([] ∷ []) [] i (omega (arith, length_lines rs))
 
-module _ (f : List ℕ) (bytes : AllBytes f) (ss : List Site) (e : contents f ≡ Ok ss) where
+module _ (list f : List ℕ) (listed : AllBytes list) (bytes : AllBytes f) (ss : List Site) (e : contents list f ≡ Ok ss) where
   rows : List Row
-  rows = map row_of ss
+  rows = map (row_of list) ss
 
   count : length rows ≡ length ss
   unfolding rows
-  count = length-map ss row_of
+  count = length-map ss (row_of list)
 
   names : Plain rows
   unfolding rows
-  names = plain f ss e
+  names = plain list f ss e
 
-  site_line_lem : (k : ℕ) → k < length ss → site_line k (pages rows) ≡ page_line (shown (get_or ss k blank_site))
+  site_line_lem : (k : ℕ) → k < length ss → site_line k (pages rows) ≡ page_line (shown list (get_or ss k blank_site))
   unfolding rows
   site_line_lem k h =
       line_is rows names (60 * (k / 59) + (k % 59 + 1)) (omega (arith, count))
       ∙ site_at_lem rows k blank_row (omega (arith, count))
-      ∙ ap row_line (row_at f ss e k h)
-      ∙ row_shown (get_or ss k blank_site)
+      ∙ ap row_line (row_at list f ss e k h)
+      ∙ row_shown list (get_or ss k blank_site)
 
-  site_columns : (k : ℕ) → k < length ss → columns_of (site_line k (pages rows)) ≡ shown (get_or ss k blank_site)
+  site_columns : (k : ℕ) → k < length ss → columns_of (site_line k (pages rows)) ≡ shown list (get_or ss k blank_site)
   site_columns k h =
       let s = get_or ss k blank_site in
-      ap columns_of (site_line_lem k h) ∙ line_shows s (passed f ss e k h) (all_at (sites_pairs f bytes ss e) k blank_site h)
+      ap columns_of (site_line_lem k h) ∙ line_shows list listed s (passed list f ss e k h) (all_at (sites_pairs list f bytes ss e) k blank_site h)
 
-  pub pages_say : PagesSay ss (pages_of ss)
+  pub pages_say : PagesSay list ss (pages_of list ss)
   unfolding rows line_at shown
   pages_say = record {
     last_page = (omega arith, omega arith);
@@ -123,18 +123,18 @@ module _ (f : List ℕ) (bytes : AllBytes f) (ss : List Site) (e : contents f �
     header = λ p h. line_is rows names (60 * p + 0) (omega (arith, count)) ∙ header_at rows p (omega (arith, count));
     placed = site_line_lem;
     values = site_columns;
-    says = λ k h. rw (site_columns k h) (word_tells (get_or ss k blank_site) (passed f ss e k h) _ _);
+    says = λ k h. rw (site_columns k h) (word_tells list (get_or ss k blank_site) (passed list f ss e k h) _ _);
   }
 
 -- less deposition is never worse, on all pages of which the above holds
-pub pages_stay : (f x g y : List ℕ) → TextSays PagesSay f x → TextSays PagesSay g y → PagesNeverWorse f x g y
-pages_stay f x g y df dg = marks_stay (λ (k : ℕ) (t : List ℕ). verdict_column (site_line k t)) f x g y (λ ss h. (df ss h).says) (λ ss h. (dg ss h).says)
+pub pages_stay : (f x g y : List ℕ) → TextSays PagesSay list f x → TextSays PagesSay g y → PagesNeverWorse f x g y
+pages_stay f x g y df dg = marks_stay (λ (k : ℕ) (t : List ℕ). verdict_column (site_line k t)) list f x g y (λ ss h. (df ss h).says) (λ ss h. (dg ss h).says)
 
 -- ---- the clauses of the call
 
-module _ (f : List ℕ) (bytes : AllBytes f) (d : List ℕ) (ss : List Site) (h : contents f ≡ Ok ss) where
-  most_is : length (pages_of ss) ≤ most_pages
-  most_is = omega (arith, length-pages (map row_of ss), length-map ss row_of, (sites_checked f ss h).0)
+module _ (list f : List ℕ) (listed : AllBytes list) (bytes : AllBytes f) (d : List ℕ) (ss : List Site) (h : contents list f ≡ Ok ss) where
+  most_is : length (pages_of list ss) ≤ most_pages
+  most_is = omega (arith, length-pages (map (row_of list) ss), length-map ss (row_of list), (sites_checked list f ss h).0)
 
-  pub paged : {e : List ℕ} {r : Written} → r ≡ text_answer (pages_of ss) d → e ≡ held (pages_of ss) d → FileClauses most_pages pages_of PagesSay f d e r
-  paged a b = filed_sites most_pages pages_of PagesSay f d ss h (answered (pages_of ss) d a b most_is) (pages_say f bytes ss h)
+  pub paged : {e : List ℕ} {r : Written} → r ≡ text_answer (pages_of list ss) d → e ≡ held (pages_of list ss) d → FileClauses most_pages (pages_of list) PagesSay list f d e r
+  paged a b = filed_sites most_pages (pages_of list) PagesSay list f d ss h (answered (pages_of list ss) d a b most_is) (pages_say list f listed bytes ss h)

@@ -3,6 +3,8 @@ use Prim.Native.Nat.{ℕ, ◌≤◌, ◌^◌, ◌<◌}
 use mathlib.Core.Path.{◌≡◌, ap}
 use native.Mathlib.Omega.{arith}
 use lib.ListN.{length, take, length-take}
+use mathlib.Core.List.{List}
+use Rattle.numbers.specs.TwoBytes.{AllBytes}
 use Rattle.site.specs.declared.Site.{Site}
 use Rattle.std.specs.Prelude.{Ok}
 use Rattle.site.specs.Check.{site_rule}
@@ -37,13 +39,13 @@ use Rattle.columns.proofs.ColumnLaws.{Whole, columns_back}
 use Rattle.pages.specs.PagesDemand3.{shown}
 
 -- the texts of a site's row, in document 01's terms
-texts_shown : (s : Site) → row_texts (row_of s) ≡ shown s
+texts_shown : (list : List ℕ) (s : Site) → row_texts (row_of list s) ≡ shown list s
 unfolding row_texts line_texts row_of row_by judged_of name_text shown
-texts_shown s = rw (row_numbers s)
+texts_shown list s = rw (row_numbers list s)
 
-pub row_shown : (s : Site) → row_line (row_of s) ≡ page_line (shown s)
+pub row_shown : (list : List ℕ) (s : Site) → row_line (row_of list s) ≡ page_line (shown list s)
 unfolding row_line
-row_shown s = ap page_line (texts_shown s)
+row_shown list s = ap page_line (texts_shown list s)
 
 -- a number below 10 to the power of its column's width is whole
 number_whole : (w n : ℕ) → 1 ≤ w → n < 10 ^ w → Whole w (decimal n)
@@ -64,34 +66,34 @@ region_small Slope = omega arith
 region_small Corner = omega arith
 region_small SulphurOnly = omega arith
 
-module _ (s : Site) (passed : site_rule s ≡ Ok tt) (pair : PairRange s) where
+module _ (list : List ℕ) (a : AllBytes list) (s : Site) (passed : site_rule list s ≡ Ok tt) (pair : PairRange s) where
   name_whole : Whole 8 (take s.name.len s.name.bytes)
   unfolding item_count name_text row_of row_by
   name_whole =
-      let few = count_parts 1 s (site_passed s passed 1 (omega arith) (omega arith)).0 in
-      record { fits = simp length-take (omega (arith, few.1)); no_space = site_name_free 32 no_space s passed }
+      let few = count_parts 1 s (site_passed list s passed 1 (omega arith) (omega arith)).0 in
+      record { fits = simp length-take (omega (arith, few.1)); no_space = site_name_free 32 no_space list s passed }
 
-  acid_small : acid_exceedance (terms_of s) s.sulphur s.nitrogen < 10 ^ 7
+  acid_small : acid_exceedance (terms_of list s) s.sulphur s.nitrogen < 10 ^ 7
   unfolding acid_exceedance
   acid_small =
-      let t = terms_of s in
-      omega (arith, acid_most s.sulphur s.nitrogen (cl_max_s t) (cl_min_n t) t.e (site_bounds s passed).e_least, pair.sulphur, pair.nitrogen)
+      let t = terms_of list s in
+      omega (arith, acid_most s.sulphur s.nitrogen (cl_max_s t) (cl_min_n t) t.e (site_bounds list s passed).e_least, pair.sulphur, pair.nitrogen)
 
-  nutrient_small : nutrient_exceedance (terms_of s) s.nitrogen < 10 ^ 7
+  nutrient_small : nutrient_exceedance (terms_of list s) s.nitrogen < 10 ^ 7
   unfolding nutrient_exceedance
   nutrient_small = omega (arith, pair.nitrogen)
 
   -- each value stands whole in its column
-  pub line_shows : columns_of (page_line (shown s)) ≡ shown s
+  pub line_shows : columns_of (page_line (shown list s)) ≡ shown list s
   unfolding shown
   line_shows =
-      let l = load_bounds s (bounds s passed) in
+      let l = load_bounds list a s (bounds list s passed) in
       columns_back _ _ _ _ _ _ _ _ _ name_whole
       (number_whole 8 _ (omega arith) (omega (arith, l.cl_max_s_most)))
       (number_whole 8 _ (omega arith) (omega (arith, l.cl_min_n_most)))
       (number_whole 8 _ (omega arith) (omega (arith, l.cl_max_n_most)))
       (number_whole 8 _ (omega arith) (omega (arith, l.cl_nut_n_most)))
-      (number_whole 2 _ (omega arith) (omega (arith, region_small (region (terms_of s) s.sulphur s.nitrogen))))
+      (number_whole 2 _ (omega arith) (omega (arith, region_small (region (terms_of list s) s.sulphur s.nitrogen))))
       (number_whole 7 _ (omega arith) acid_small)
       (number_whole 7 _ (omega arith) nutrient_small)
       (mark_whole _)

@@ -23,9 +23,9 @@ page_count n = div_ceil n 59
 unfoldable pub pages : List Row → List ℕ
 pages rs = flat_map ended (lines_to rs (page_count (length rs)))
 
--- the pages of the sites of a file
-abbrev pub pages_of : List Site → List ℕ
-pages_of ss = pages (map row_of ss)
+-- the pages of the sites of a file, with the list that is lent
+abbrev pub pages_of : List ℕ → List Site → List ℕ
+pages_of list ss = pages (map (row_of list) ss)
 
 -- those of 500 sites, each line with its 0A; 33085
 abbrev pub most_pages : ℕ

@@ -11,7 +11,7 @@ ghost use Rattle.pages.specs.PagesDemand3.{PagesSay};
 
 use columns::{put_header, put_row};
 use listing::walk_file;
-use site::{Refusal, Rule};
+use site::{Refusal, Rule, SpeciesList};
 use text::Row;
 
 // Writes the pages of rows: under the header of each stand 59, on the last what is left. A buffer that is too short for all of them stays as it is.
@@ -34,13 +34,17 @@ fn put_pages(out: &mut [u8], rows: &[Row]) -> Result<usize, Refusal>
 }
 
 // Nothing is written before the last record is checked and all pages are known to fit.
-pub fn list_pages(file: &[u8], out: &mut [u8]) -> Result<usize, Refusal>
-    ensures answer { result ≡ file_answer pages_of (contents file.now) out.old }
-    ensures buffer { out.new ≡ file_held pages_of (contents file.now) out.old }
-    ensures numbers { written_numbers result ≡ file_numbers pages_of (contents file.now) out.old }
-    ensures enough { FileRoom most_pages pages_of (contents file.now) out.old result }
-    ensures demand3 { WrittenSays PagesSay file.now out.new result }
+pub fn list_pages(
+    file: &[u8],
+    list: SpeciesList<'_>,
+    out: &mut [u8],
+) -> Result<usize, Refusal>
+    ensures answer { result ≡ file_answer (pages_of list.entry.bytes.now) (contents list.entry.bytes.now file.now) out.old }
+    ensures buffer { out.new ≡ file_held (pages_of list.entry.bytes.now) (contents list.entry.bytes.now file.now) out.old }
+    ensures numbers { written_numbers result ≡ file_numbers (pages_of list.entry.bytes.now) (contents list.entry.bytes.now file.now) out.old }
+    ensures enough { FileRoom most_pages (pages_of list.entry.bytes.now) (contents list.entry.bytes.now file.now) out.old result }
+    ensures demand3 { WrittenSays PagesSay list.entry.bytes.now file.now out.new result }
 {
-    let rows = walk_file(file)?;
+    let rows = walk_file(file, list)?;
     put_pages(out, &rows)
 }

@@ -22,6 +22,6 @@ shown_whole text d e k n h t = go (room_rule (length text) (length d)) refl
         absurd (omega (arith, room_missing (length text) (length d) b, ap length nil))
 
 -- a buffer that holds a file, or as many of its first bytes as it takes, has the file's report
-pub output_is : (f b : List ℕ) (r : ReadState) → most_file ≤ length b → ReadFrom f b r → output_of r b ≡ report_of f
+pub output_is : (f b : List ℕ) (r : ReadState) → most_file ≤ length b → ReadFrom f b r → output_of r b ≡ report_of [] f
 unfolding output_of
-output_is f b r h x = rw x.ended (ap report_of x.bytes ∙ report_take f (length b) h)
+output_is f b r h x = rw x.ended (ap (report_of []) x.bytes ∙ report_take [] f (length b) h)

@@ -11,7 +11,7 @@ shown_length text d = output_count (room_rule (length text) (length d)) (length 
 
 -- the report of the bytes that were read, where the reading has ended, with the file or with a full buffer; nothing after a failed read
 unfoldable pub output_of : ReadState → List ℕ → List ℕ
-output_of (Ended n) b = report_of (take n b)
+output_of (Ended n) b = report_of [] (take n b)
 output_of (More n) b = []
 output_of Failed b = []
 

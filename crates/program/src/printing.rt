@@ -14,11 +14,11 @@ use listing::report;
 #[tactic(auto, unfolding(site::specs::Refusal::unless, output::specs::Output::held_after, output::specs::Output::output_count))]
 fn shown(file: &[u8], out: &mut [u8]) -> usize
     ensures inside { (result ≤ length out.new) × (result ≡ length (take result out.new)) }
-    ensures answer { result ≡ shown_length (report_of file.now) out.old }
-    ensures buffer { out.new ≡ held (report_of file.now) out.old }
-    ensures enough { most_text ≤ length out.old → take result out.new ≡ report_of file.now }
+    ensures answer { result ≡ shown_length (report_of [] file.now) out.old }
+    ensures buffer { out.new ≡ held (report_of [] file.now) out.old }
+    ensures enough { most_text ≤ length out.old → take result out.new ≡ report_of [] file.now }
 {
-    report(file, out).unwrap_or(0)
+    report(file, SpeciesList::empty(), out).unwrap_or(0)
 }
 
 // The report of what was read, where the reading has ended, and nothing otherwise; gives how many bytes to print. The file's buffer
@@ -30,8 +30,8 @@ pub fn to_print(file: &[u8; 129001], reading: ReadState, out: &mut [u8; 81551]) 
     ensures answer { result ≡ length (output_of reading file.now) }
     ensures buffer { out.new ≡ output_of reading file.now ++ drop (length (output_of reading file.now)) out.old }
     ensures failed { reading ≡ Failed → (result ≡ 0) × (out.new ≡ out.old) }
-    ensures whole { (f : List ℕ) → ReadFrom f file.now reading → take result out.new ≡ report_of f }
-    ensures demand3 { (f : List ℕ) → ReadFrom f file.now reading → Demand3 f (take result out.new) }
+    ensures whole { (f : List ℕ) → ReadFrom f file.now reading → take result out.new ≡ report_of [] f }
+    ensures demand3 { (f : List ℕ) → ReadFrom f file.now reading → Demand3 [] f (take result out.new) }
 {
     match reading {
         ReadState::Ended(n) => shown(&file[..n.min(file.len())], out),

@@ -14,7 +14,7 @@ use std::io::{self, Read, Write};
 // what they have left and what they hold. The buffers are fixed memory: nothing is allocated.
 pub fn run<R: Read, W: Write>(reader: &mut R, writer: &mut W) -> io::Result<Input>
     ensures read { IfOk result (λ i. ReadAll 129001 i) }
-    ensures whole { IfOk result (λ i. IfSome (R.remaining reader.old) (λ f. i.reading ≢ Failed → Appends (W.contents writer.old) (W.contents writer.new) (report_of f))) }
+    ensures whole { IfOk result (λ i. IfSome (R.remaining reader.old) (λ f. i.reading ≢ Failed → Appends (W.contents writer.old) (W.contents writer.new) (report_of [] f))) }
     ensures failed { IfOk result (λ i. i.reading ≡ Failed → Keeps (W.contents writer.old) (W.contents writer.new)) }
 {
     let mut file = [0u8; 129001];

@@ -7,6 +7,7 @@ pub mod PartLaws
 pub mod MapLaws
 pub mod ListLaws
 pub mod SearchLaws
+pub mod LookupLaws
 pub mod StandLaws
 pub mod LengthLaws
 pub mod Tags

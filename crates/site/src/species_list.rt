@@ -1,5 +1,5 @@
 // A list of species that a buyer lends: its check, and the search in it.
-ghost use Rattle.std.specs.Prelude.{◌≡◌, ◌*◌, ◌+◌, ◌<◌, ◌≤◌, MatchResult, Ok, Err};
+ghost use Rattle.std.specs.Prelude.{◌≡◌, ◌≤◌, [], MatchResult, Ok, Err};
 ghost use Rattle.site.specs.SpeciesList.{entry_count, place_of, lists, list_rule, list_fault};
 
 use crate::{Refusal, Rule};
@@ -35,6 +35,14 @@ impl<'a> SpeciesList<'a> {
             return Err(Refusal { rule, at });
         }
         Ok(SpeciesList { bytes })
+    }
+
+    // The list of no entries, which passes its check.
+    #[tactic(auto, using(crate::proofs::LookupLaws::empty_good))]
+    pub fn empty() -> SpeciesList<'static>
+        ensures { result.bytes.now ≡ [] }
+    {
+        SpeciesList { bytes: &[] }
     }
 
     // The entry with a number, or how many entries there are where none has it. The numbers rise, so each turn halves what is left.

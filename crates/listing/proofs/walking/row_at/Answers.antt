@@ -8,18 +8,18 @@ pub returns-in_err-site : goal.returns-in_err-site
 returns-in_err-site c =
     let p = err_from_is_err_and c.from_residual.result c.from_residual.ensures.1 in
     let e = sym c.read_at.ensures.answer ∙ c.in_err-site.was in
-    rw (p.1, p.2) (sym (step_refused _ _ e))
+    rw (p.1, p.2) (sym (step_refused _ _ _ e))
 
 pub returns-in_err-judged : goal.returns-in_err-judged
 returns-in_err-judged c =
     let x = c.in_ok-site.field-0 in
-    let is : record_at c.args.file.now c.args.at ≡ Ok x = sym c.read_at.ensures.answer ∙ c.in_ok-site.was in
+    let is : record_at c.args.list.bytes.now c.args.file.now c.args.at ≡ Ok x = sym c.read_at.ensures.answer ∙ c.in_ok-site.was in
     let broken : c.judge.result ≡ Err c.in_err-judged.field-0.0.rule = search rules in
-    is_judged _ _ is (sym c.judge.ensures.answer ∙ broken)
+    is_judged _ _ _ is (sym c.judge.ensures.answer ∙ broken)
 
 pub returns : goal.returns
 returns c =
     let x = c.in_ok-site.field-0 in
-    let is : record_at c.args.file.now c.args.at ≡ Ok x = sym c.read_at.ensures.answer ∙ c.in_ok-site.was in
+    let is : record_at c.args.list.bytes.now c.args.file.now c.args.at ≡ Ok x = sym c.read_at.ensures.answer ∙ c.in_ok-site.was in
     let judged : c.judge.result ≡ Ok c.in_ok-judged.judged = search rules in
-    rw c.row_by-row.ensures (sym (step_made _ _ is (sym c.judge.ensures.answer ∙ judged)))
+    rw c.row_by-row.ensures (sym (step_made _ _ _ is (sym c.judge.ensures.answer ∙ judged)))

@@ -9,15 +9,17 @@ use Rattle.pages.proofs.paging.list_pages.Goals as goal
 
 pub returns-in_err-rows : goal.returns-in_err-rows
 returns-in_err-rows c =
+    let list = c.args.list.bytes.now in
     let f = c.args.file.now in
     let p = err_from_is_err_and c.from_residual.result c.from_residual.ensures.1 in
-    let h = filed_fault most_pages pages_of PagesSay f c.args.out.now (found_fault (contents f) c.in_err-rows.ensures.answer) in
+    let h = filed_fault most_pages (pages_of list) PagesSay list f c.args.out.now (found_fault list (contents list f) c.in_err-rows.ensures.answer) in
     rw (p.1, p.2) (record { answer = h.0; buffer = h.1.0; numbers = h.1.1.0; enough = h.1.1.1.0; demand3 = h.1.1.1.1 })
 
 pub returns : goal.returns
 returns c =
+    let list = c.args.list.bytes.now in
     let f = c.args.file.now in
-    let x = found_sites (contents f) c.in_ok-rows.ensures.answer in
+    let x = found_sites list (contents list f) c.in_ok-rows.ensures.answer in
     let e = rw (c.deref.ensures.0 ∙ x.lines) at c.put_pages.ensures in
-    let h = paged f (λ i. omega (arith, c.type_inv.file i)) c.args.out.now x.ss x.holds e.0 e.1 in
+    let h = paged list f (λ i. omega (arith, c.type_inv.list.bytes i)) (λ i. omega (arith, c.type_inv.file i)) c.args.out.now x.ss x.holds e.0 e.1 in
     record { answer = h.0; buffer = h.1.0; numbers = h.1.1.0; enough = h.1.1.1.0; demand3 = h.1.1.1.1 }

@@ -13,4 +13,4 @@ returns-in-Ended-clause-whole c = λ f x.
     grind (arith, common_steps, same)
 
 pub returns-in-Ended-clause-demand3 : goal.returns-in-Ended-clause-demand3
-returns-in-Ended-clause-demand3 c = λ f x. rw (returns-in-Ended-clause-whole c f x) (report_says f)
+returns-in-Ended-clause-demand3 c = λ f x. rw (returns-in-Ended-clause-whole c f x) (report_says [] f)
