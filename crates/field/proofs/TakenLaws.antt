@@ -1,6 +1,6 @@
 -- Laws of a field taken into a site.
 use mathlib.Core.Path.{◌≡◌, refl}
-use mathlib.Core.Bool.{true}
+use mathlib.Core.Bool.{Bool, true, false}
 use mathlib.Core.List.{List}
 use Prim.Native.Nat.{ℕ}
 use lib.ListN.{length}
@@ -8,10 +8,11 @@ use Rattle.std.specs.Prelude.{Ok, Err}
 use Rattle.site.specs.declared.Rule.TheVariants.{BadLength}
 use Rattle.site.specs.declared.RecordKind.{RecordKind}
 use Rattle.site.specs.declared.Site.{Site}
+use Rattle.site.specs.Choice.{pick}
 use Rattle.site.specs.Refusal.{Checked, checked_number, Numbered}
 use Rattle.site.specs.Values.{length_permitted, value_rule}
 use Rattle.site.proofs.NumberLaws.{known, numbered, known_pick, known_value}
-use Rattle.field.specs.Field.{store, site_kind, taken}
+use Rattle.field.specs.Field.{store, blank_of, site_kind, taken}
 use Rattle.field.specs.Kind.{field_rule}
 use Rattle.field.proofs.KindLaws.{parts_passed}
 
@@ -19,6 +20,19 @@ use Rattle.field.proofs.KindLaws.{parts_passed}
 pub store_kind : (k : RecordKind) (t : ℕ) (v : List ℕ) (s : Site) → (store k t v s).kind ≡ s.kind
 unfolding store
 store_kind k t v s = refl
+
+pub taken_kind : (k : RecordKind) (t : ℕ) (v : List ℕ) (s : Site) → (taken k t v s).kind ≡ s.kind
+unfolding taken
+taken_kind k t v s = by_length (length_permitted k t (length v))
+  where
+    by_length : (b : Bool) → (pick b (store k t v s) s).kind ≡ s.kind
+    by_length true = store_kind k t v s
+    by_length false = refl
+
+-- the kind that reading starts from
+pub blank_kind : (k : RecordKind) → (blank_of k).kind ≡ k
+unfolding blank_of
+blank_kind k = refl
 
 module _ (list : List ℕ) (t : ℕ) (v : List ℕ) (s : Site) where
   pub known_field : known (field_rule (site_kind list s.kind) t v s) ≡ true
