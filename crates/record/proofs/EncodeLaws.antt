@@ -11,6 +11,7 @@ use Rattle.site.specs.declared.RecordKind.{RecordKind}
 use Rattle.site.specs.declared.RecordKind.TheVariants.{Tag52, Tag53, Tag54}
 use Rattle.site.specs.Kinds.{kind_tag, due, entry_width}
 use Rattle.site.proofs.FieldLaws.{site_passed}
+use Rattle.site.proofs.LengthLaws.{longest}
 use Rattle.record.specs.FieldParts.{field_of}
 use Rattle.field.specs.Field.{entries_bytes, value, site_kind}
 use Rattle.field.specs.Kind.{Kind}
@@ -111,4 +112,4 @@ module _ (list : List ℕ) (s : Site) (z : Sized s) (e : site_rule list s ≡ Ok
   fields_small =
       let n = name_counts s z (site_passed list s e 1 (omega arith) (omega arith)).0 in
       let b = stand_counts s z (site_passed list s e 7 (omega arith) (omega arith)).0 in
-      omega (arith, encode_length (site_kind [] s.kind) s, record_length, added_few s.kind, (entries_span s.kind s.stand.count b.0 b.1).1)
+      omega (arith, encode_length (site_kind [] s.kind) s, record_length, added_few s.kind, (entries_span s.kind s.stand.count b.0 b.1).1, longest s.kind 7)

@@ -1,5 +1,5 @@
 -- Laws of the walk over the fields of a record, for every kind.
-use mathlib.Core.Path.{◌≡◌, refl, ap, ◌∙◌}
+use mathlib.Core.Path.{◌≡◌, refl, sym, ap, ◌∙◌}
 use mathlib.Core.Bool.{Bool, true, false}
 use mathlib.Core.List.{List, [], ◌∷◌, ◌++◌}
 use Prim.Native.Nat.{ℕ, ◌+◌, ◌-◌, ◌≤◌, ◌<◌}
@@ -138,16 +138,19 @@ module _ (list : List ℕ) (k : RecordKind) (last : ℕ) (s : Site) (bs : List �
       value_is : v ≡ value_at bs
       value_is = rw (is_end, add-sub_cancel_left)
 
+      at_kind : (c : Checked) → field_rule (site_kind list s.kind) t v s ≡ c → field_rule (site_kind list k) t (value_at bs) s ≡ c
+      at_kind c e = rw value_is at (sym (ap (λ j. field_rule (site_kind list j) t v s) of) ∙ e)
+
       pub tag_value : (r : Rule) → field_rule (site_kind list s.kind) t v s ≡ Err r
           → walk_fields (site_kind list k) (tags_from last t) s bs at ≡ Err (record { rule = r; at = at })
-      tag_value r e = rw (tags_more last t inside) (walk_value (site_kind list k) ds 0 (omega arith) s bs at ok r (rw (value_is, of) at e))
+      tag_value r e = rw (tags_more last t inside) (walk_value (site_kind list k) ds 0 (omega arith) s bs at ok r (at_kind (Err r) e))
 
       pub tag_next : field_rule (site_kind list s.kind) t v s ≡ Ok tt
           → walk_fields (site_kind list k) (tags_from last t) s bs at
           ≡ walk_fields (site_kind list k) (tags_from last (t + 1)) (taken s.kind t v s) (take (length bs - end) (drop end bs)) (at + end)
       tag_next e =
-          let passed = rw (value_is, of) at e in
-          let is : taken s.kind t v s ≡ (site_kind list k).store t (value_at bs) s = rw (value_is, of) (taken_ok list t (value_at bs) s k passed) in
+          let passed = at_kind (Ok tt) e in
+          let is : taken s.kind t v s ≡ (site_kind list k).store t (value_at bs) s = ap (λ j. taken j t v s) of ∙ rw value_is (taken_ok list t (value_at bs) s k passed) in
           rw (tags_more last t inside) (walk_next (site_kind list k) ds 0 (omega arith) s bs at ok passed (taken s.kind t v s) is end is_end)
 
   -- the end: no tag is due
