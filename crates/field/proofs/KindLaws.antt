@@ -2,8 +2,7 @@
 use mathlib.Core.Path.{◌≡◌, refl, sym, ap, ◌∙◌}
 use mathlib.Core.Bool.{true}
 use mathlib.Core.List.{List, [], ◌∷◌, ◌++◌}
-use Prim.Native.Nat.{ℕ, ◌+◌, ◌/◌, ◌%◌}
-use native.Mathlib.Omega.{arith}
+use Prim.Native.Nat.{ℕ}
 use lib.ListN.{length, get_or}
 use Rattle.site.specs.declared.Rule.TheVariants.{BadLength}
 use Rattle.site.proofs.Passing.{pass_then}
@@ -14,7 +13,7 @@ use Rattle.site.specs.Bytes.{tabulate}
 use Rattle.field.specs.Clean.{AllBytes}
 use Rattle.field.specs.Kind.{Kind, field_rule}
 use Rattle.field.proofs.TabulateLaws.{tabulate-get_or}
-use Rattle.field.proofs.EntryLaws.{word_back}
+use Rattle.field.proofs.EntryLaws.{word_back, word_hi, word_lo}
 
 -- ---- what was stored is written
 
@@ -27,18 +26,12 @@ module _ (v : List ℕ) where
   unfolding tabulate
   bytes_kept l = rw l at (tabulate-get_or v 0)
 
-  word_hi : (i : ℕ) → AllBytes v → word_at v i / 256 ≡ get_or v i 0
-  word_hi i b = omega (arith, b (i + 1))
-
-  word_lo : (i : ℕ) → AllBytes v → word_at v i % 256 ≡ get_or v (i + 1) 0
-  word_lo i b = omega (arith, b (i + 1))
-
   word_kept : length v ≡ 2 → AllBytes v → word_bytes (word_at v 0) ≡ v
-  word_kept l b = rw (word_hi 0 b, word_lo 0 b) (bytes_kept l)
+  word_kept l b = rw (word_hi v 0 b, word_lo v 0 b) (bytes_kept l)
 
   words_kept : length v ≡ 4 → AllBytes v → word_bytes (word_at v 0) ++ word_bytes (word_at v 2) ≡ v
   unfolding tabulate
-  words_kept l b = rw (word_hi 0 b, word_lo 0 b, word_hi 2 b, word_lo 2 b) (rw l at (tabulate-get_or v 0))
+  words_kept l b = rw (word_hi v 0 b, word_lo v 0 b, word_hi v 2 b, word_lo v 2 b) (rw l at (tabulate-get_or v 0))
 
 -- ---- the laws by tag
 
@@ -58,7 +51,7 @@ module _ {A : Type 0} (K : Kind A) where
     pub own : (v : List ℕ) (x : A) → field_rule K t v x ≡ Ok tt → AllBytes v → K.bytes t (K.store t v x) ≡ v
     pub other : (u : ℕ) (v : List ℕ) (x : A) → (u ≡ t → ⊥) → K.bytes t (K.store u v x) ≡ K.bytes t x
 
-  -- ---- the field t holds a part of the value: how it is made from bytes, its own bytes, and its rules 8 to 10
+  -- ---- the field t holds a part of the value: how it is made from bytes, its own bytes, and its rules 8 to 10 and 16
 
   abbrev pub Computes : ℕ → (B : Type 0) → (A → B) → (List ℕ → B) → (B → List ℕ) → (B → Checked) → Type 0
   Computes t B part make bytes check =

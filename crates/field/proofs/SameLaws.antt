@@ -7,7 +7,7 @@ use lib.ListN.{length, take, replicate}
 use lib.Seq.{take_at, take-take, length-take-le}
 use Rattle.site.specs.declared.Site.{Site}
 use Rattle.site.specs.declared.RecordKind.{RecordKind}
-use Rattle.site.specs.declared.RecordKind.TheVariants.{Tag52, Tag53}
+use Rattle.site.specs.declared.RecordKind.TheVariants.{Tag52, Tag53, Tag54}
 use Rattle.site.specs.Kinds.{counted_temperature}
 use Rattle.std.specs.Prelude.{Ok}
 use Rattle.site.specs.Bounds.{no_entry}
@@ -25,12 +25,13 @@ counted : (s : Site) (k : RecordKind) → s.kind ≡ k → counted_temperature s
 unfolding counted_temperature clean
 counted s Tag52 e = rw e
 counted s Tag53 e = rw e
+counted s Tag54 e = rw e
 
-pub clean_same : (s : Site) → Sized s → site_rule s ≡ Ok tt → SameSite s (clean s)
+pub clean_same : (list : List ℕ) (s : Site) → Sized s → site_rule list s ≡ Ok tt → SameSite s (clean s)
 unfolding clean item_count
-clean_same s z e = record {
+clean_same list s z e = record {
   kind = refl;
-  name = padded_front s.name.bytes s.name.len 8 0 z.name (count_parts 1 s (site_passed s e 1 (omega arith) (omega arith)).0).1;
+  name = padded_front s.name.bytes s.name.len 8 0 z.name (count_parts 1 s (site_passed list s e 1 (omega arith) (omega arith)).0).1;
   name_length = refl;
   entries = refl;
   one = record {
@@ -40,7 +41,7 @@ clean_same s z e = record {
     depth = refl;
     drainage = refl;
     percolation = refl;
-    stand = padded_front s.stand.entries s.stand.count 4 no_entry z.stand (count_parts 7 s (site_passed s e 7 (omega arith) (omega arith)).0).1;
+    stand = padded_front s.stand.entries s.stand.count 4 no_entry z.stand (count_parts 7 s (site_passed list s e 7 (omega arith) (omega arith)).0).1;
     immobilisation = refl;
     available = refl;
     deposition = refl;

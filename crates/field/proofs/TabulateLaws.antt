@@ -1,10 +1,11 @@
 -- Laws of arrays that are filled from a list, with zeros past its end.
-use mathlib.Core.Path.{◌≡◌, refl, ap}
+use mathlib.Core.Path.{◌≡◌, refl, ap, ◌∙◌}
 use mathlib.Core.List.{List, [], ◌∷◌, ◌++◌}
 use Prim.Native.Nat.{ℕ, zero, suc, ◌≤◌}
 use native.Mathlib.Nat.{le_of_suc-le-suc, not-suc-le-zero}
 use native.Mathlib.Omega.{arith}
 use lib.ListN.{length, get_or, take, replicate}
+use Rattle.std.proofs.lemmas.List.{take-append-le}
 use Rattle.site.specs.Bytes.{tabulate}
 
 module _ {ℓ} {A : Type ℓ} where
@@ -24,6 +25,9 @@ module _ {ℓ} {A : Type ℓ} where
   tabulate_pad (suc n) zero v d h = absurd (not-suc-le-zero h)
   tabulate_pad (suc n) (suc m) [] d h = ap (λ (r : List A). d ∷ r) (tabulate_pad n m [] d (le_of_suc-le-suc h))
   tabulate_pad (suc n) (suc m) (x ∷ v) d h = ap (λ (r : List A). x ∷ r) (tabulate_pad n (suc m) v d (omega arith))
+
+  pub tabulate_front : (n : ℕ) (v : List A) (d : A) → n ≤ length v → tabulate n (λ i. get_or v i d) ≡ take n v
+  tabulate_front n v d h = tabulate_pad n n v d (omega arith) ∙ take-append-le n v (replicate n d) h
 
   -- the first elements are what was stored
   pub take-tabulate : (n : ℕ) (v : List A) (d : A) → length v ≤ n → take (length v) (tabulate n (λ i. get_or v i d)) ≡ v

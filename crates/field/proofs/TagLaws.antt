@@ -1,8 +1,9 @@
 -- The fields of a site by tag: what was stored is written, what is written is read, and other fields stay.
-use mathlib.Core.Path.{◌≡◌, refl, ◌∙◌}
+use mathlib.Core.Path.{◌≡◌, refl, sym, ◌∙◌}
 use mathlib.Core.Bool.{true}
 use mathlib.Core.List.{List, [], ◌∷◌, ◌++◌}
 use Prim.Native.Nat.{ℕ, ◌+◌, ◌*◌, ◌/◌, ◌≤◌}
+use native.Mathlib.Nat.{mul-le-mul_left}
 use native.Mathlib.Omega.{arith}
 use lib.Dec.{leb, eqb}
 use lib.ListN.{length, get_or, take, replicate, get_or-eq_default}
@@ -13,29 +14,34 @@ use Rattle.site.specs.Bounds.{no_entry}
 use Rattle.site.specs.Choice.{pick}
 use Rattle.site.specs.Bytes.{tabulate, entry_at}
 use Rattle.field.specs.Field.{store, entries_bytes, value, site_kind}
-use Rattle.field.specs.Kind.{field_rule}
+use Rattle.field.specs.Kind.{Kind, field_rule}
 use Rattle.site.specs.Ranges.{parent_range, depth_range, drainage_range, percolation_range, immobilisation_range, available_range, base_deposition_range, ratio_range, gibbsite_range, ceiling_range, leachate_range, temperature_range}
 use Rattle.site.specs.declared.RecordKind.{RecordKind}
-use Rattle.site.specs.declared.RecordKind.TheVariants.{Tag52, Tag53}
-use Rattle.site.specs.Kinds.{due}
+use Rattle.site.specs.declared.RecordKind.TheVariants.{Tag52, Tag53, Tag54}
+use Rattle.site.specs.Kinds.{due, entry_width}
 use Rattle.site.specs.Values.{items_of, length_permitted, item_count, count_rule, value_rule, ranged, between}
 use Rattle.site.proofs.LengthLaws.{permitted_parts, parts_permitted, parts_counted, one_item}
 use Rattle.field.specs.Clean.{Sized, AllBytes}
 use Rattle.field.proofs.All.{All, none, ◌▸◌}
 use Rattle.field.proofs.TabulateLaws.{take-tabulate, tabulate-clean}
 use Rattle.site.proofs.EntryPast.{entry_past}
-use Rattle.field.proofs.EntryLaws.{stand_back, entries_back}
+use Rattle.field.proofs.EntryLaws.{counted, entries_span, stand_back, entries_back}
 use Rattle.field.proofs.KindLaws.{Made, Kept, parts_passed, OneLength, OneItem, byte_item, word_item, pair_item, words_item}
-use Rattle.field.proofs.FieldValueLaws.{name_counts, name_long, stand_counts, stand_long, bytes_long}
+use Rattle.field.proofs.FieldValueLaws.{name_counts, name_long, stand_counts, stand_long, bytes_long, entries_ranged}
 
 -- ---- what was stored is written
 
-module _ (v : List ℕ) where
-  name_kept : length_permitted 1 (length v) ≡ true → take (length v) (tabulate 8 (λ i. get_or v i 0)) ≡ v
-  name_kept p = let q = permitted_parts 1 (length v) p in take-tabulate 8 v 0 (omega arith)
+name_kept : (k : RecordKind) (v : List ℕ) → length_permitted k 1 (length v) ≡ true → take (length v) (tabulate 8 (λ i. get_or v i 0)) ≡ v
+name_kept k v p = let q = permitted_parts k 1 (length v) p in take-tabulate 8 v 0 (omega arith)
 
-  stand_kept : length_permitted 7 (length v) ≡ true → AllBytes v → entries_bytes (take (length v / 4) (tabulate 4 (λ i. entry_at v (4 * i)))) ≡ v
-  stand_kept p b = let q = permitted_parts 7 (length v) p in entries_back (length v / 4) 4 v (omega arith) (omega arith) b
+-- the bytes of a stand are those of 1 to 4 entries
+stand_span : (k : RecordKind) (v : List ℕ) → length_permitted k 7 (length v) ≡ true
+    → (entry_width k * (length v / entry_width k) ≡ length v) × (1 ≤ length v / entry_width k) × (length v / entry_width k ≤ 4)
+stand_span k v p = let q = permitted_parts k 7 (length v) p in counted k (length v) q.0 q.1 q.2
+
+stand_kept : (k : RecordKind) (v : List ℕ) → length_permitted k 7 (length v) ≡ true → AllBytes v
+    → entries_bytes k (take (length v / entry_width k) (tabulate 4 (λ i. entry_at k v (entry_width k * i)))) ≡ v
+stand_kept k v p b = let q = stand_span k v p in entries_back k (length v / entry_width k) 4 v q.2 (sym q.0) b
 
 -- ---- what reading a field leaves in a site
 
@@ -49,116 +55,125 @@ StandTidy s = take 4 (take s.stand.count s.stand.entries ++ replicate 4 no_entry
 unfoldable pub Tidy : ℕ → Site → Type 0
 Tidy t s = pick (eqb t 1) (NameTidy s) (pick (eqb t 7) (StandTidy s) Unit)
 
-pub record AsRead (t : ℕ) (s : Site) : Type 0 where
+-- rule 7 and zeros, which no list has a part in
+abbrev Counted : ℕ → Site → Type 0
+Counted t s = (count_rule t s ≡ Ok tt) × Tidy t s
+
+pub record AsRead (list : List ℕ) (k : RecordKind) (t : ℕ) (s : Site) : Type 0 where
   pub count : count_rule t s ≡ Ok tt
-  pub rule : value_rule t s ≡ Ok tt
+  pub rule : value_rule list k t s ≡ Ok tt
   pub tidy : Tidy t s
 
 -- ---- the name and the stand
 
-pub quarter : (n : ℕ) → 4 * n / 4 ≡ n
-quarter n = omega arith
-
 name_clean : (v : List ℕ) → take 8 (take (length v) (tabulate 8 (λ i. get_or v i 0)) ++ replicate 8 0) ≡ tabulate 8 (λ i. get_or v i 0)
 name_clean v = tabulate-clean 8 (length v) 8 (λ i. get_or v i 0) 0 (omega arith) (λ i h. get_or-eq_default v 0 {n = i} h)
 
-stand_clean : (v : List ℕ) → length_permitted 7 (length v) ≡ true
-    → take 4 (take (length v / 4) (tabulate 4 (λ i. entry_at v (4 * i))) ++ replicate 4 no_entry) ≡ tabulate 4 (λ i. entry_at v (4 * i))
-stand_clean v p =
-    let q = permitted_parts 7 (length v) p in
-    tabulate-clean 4 (length v / 4) 4 (λ i. entry_at v (4 * i)) no_entry (omega arith) (λ i h. entry_past v (4 * i) (omega arith))
+module _ (k : RecordKind) where
+  stand_clean : (v : List ℕ) → length_permitted k 7 (length v) ≡ true
+      → take 4 (take (length v / entry_width k) (tabulate 4 (λ i. entry_at k v (entry_width k * i))) ++ replicate 4 no_entry)
+      ≡ tabulate 4 (λ i. entry_at k v (entry_width k * i))
+  stand_clean v p =
+      let w = entry_width k in
+      let n = length v / w in
+      tabulate-clean 4 n 4 (λ i. entry_at k v (w * i)) no_entry (omega arith)
+      (λ i h. entry_past k v (w * i) (omega (arith, (stand_span k v p).0, mul-le-mul_left w h)))
 
-name_own : (v : List ℕ) (x : Site) → length_permitted 1 (length v) ≡ true → (count_rule 1 (store 1 v x) ≡ Ok tt) × Tidy 1 (store 1 v x)
-unfolding store item_count Tidy
-name_own v x p =
-    let q = permitted_parts 1 (length v) p in
-    (parts_counted 1 (store 1 v x) (omega arith) (omega arith), name_clean v)
+  name_own : (v : List ℕ) (x : Site) → length_permitted k 1 (length v) ≡ true → Counted 1 (store k 1 v x)
+  unfolding store item_count Tidy
+  name_own v x p =
+      let q = permitted_parts k 1 (length v) p in
+      (parts_counted 1 (store k 1 v x) (omega arith) (omega arith), name_clean v)
 
-stand_own : (v : List ℕ) (x : Site) → length_permitted 7 (length v) ≡ true → (count_rule 7 (store 7 v x) ≡ Ok tt) × Tidy 7 (store 7 v x)
-unfolding store item_count Tidy
-stand_own v x p =
-    let q = permitted_parts 7 (length v) p in
-    (parts_counted 7 (store 7 v x) (omega arith) (omega arith), stand_clean v p)
+  stand_own : (v : List ℕ) (x : Site) → length_permitted k 7 (length v) ≡ true → Counted 7 (store k 7 v x)
+  unfolding store item_count Tidy
+  stand_own v x p = let q = stand_span k v p in (parts_counted 7 (store k 7 v x) q.1 q.2, stand_clean v p)
 
-name_other : (u : ℕ) (v : List ℕ) (x : Site) → (u ≡ 1 → ⊥) → (count_rule 1 x ≡ Ok tt) × Tidy 1 x → (count_rule 1 (store u v x) ≡ Ok tt) × Tidy 1 (store u v x)
-unfolding store count_rule item_count Tidy
-name_other u v x h p = (rw (ne_eqb u 1 h) p.0, rw (ne_eqb u 1 h) p.1)
+  name_other : (u : ℕ) (v : List ℕ) (x : Site) → (u ≡ 1 → ⊥) → Counted 1 x → Counted 1 (store k u v x)
+  unfolding store count_rule item_count Tidy
+  name_other u v x h p = (rw (ne_eqb u 1 h) p.0, rw (ne_eqb u 1 h) p.1)
 
-stand_other : (u : ℕ) (v : List ℕ) (x : Site) → (u ≡ 7 → ⊥) → (count_rule 7 x ≡ Ok tt) × Tidy 7 x → (count_rule 7 (store u v x) ≡ Ok tt) × Tidy 7 (store u v x)
-unfolding store count_rule item_count Tidy
-stand_other u v x h p = (rw (ne_eqb u 7 h) p.0, rw (ne_eqb u 7 h) p.1)
+  stand_other : (u : ℕ) (v : List ℕ) (x : Site) → (u ≡ 7 → ⊥) → Counted 7 x → Counted 7 (store k u v x)
+  unfolding store count_rule item_count Tidy
+  stand_other u v x h p = (rw (ne_eqb u 7 h) p.0, rw (ne_eqb u 7 h) p.1)
 
 -- ---- the laws of the field t in a record of kind k
 
-module _ (k : RecordKind) where
+module _ (list : List ℕ) (k : RecordKind) where
+  abbrev K : Kind Site
+  K = site_kind list k
+
+  abbrev Again : ℕ → Type 0
+  Again t = (s : Site) → Sized s → count_rule t s ≡ Ok tt → value_rule list k t s ≡ Ok tt → (x : Site) → field_rule K t (value k t s) x ≡ Ok tt
+
   pub record TagLaws (t : ℕ) : Type 0 where
-    pub kept : Kept (site_kind k) t
-    pub read : Made (site_kind k) (AsRead t) t
-    pub again : (s : Site) → Sized s → count_rule t s ≡ Ok tt → value_rule t s ≡ Ok tt → (x : Site) → field_rule (site_kind k) t (value t s) x ≡ Ok tt
+    pub kept : Kept (site_kind list k) t
+    pub read : Made (site_kind list k) (AsRead list k t) t
+    pub again : (s : Site) → Sized s → count_rule t s ≡ Ok tt → value_rule list k t s ≡ Ok tt → (x : Site) → field_rule (site_kind list k) t (value k t s) x ≡ Ok tt
 
   -- a field of one item, of which rule 7 holds in every site
-  one_tag : (t : ℕ) → OneItem (site_kind k) t → ((s : Site) → (count_rule t s ≡ Ok tt) × Tidy t s) → TagLaws t
+  one_tag : (t : ℕ) → OneItem K t → ((s : Site) → Counted t s) → TagLaws t
   one_tag t one plain = record {
     kept = one.kept;
     read = record {
-      own = λ v x e. record { count = (plain (store t v x)).0; rule = (parts_passed (site_kind k) t v x e).1; tidy = (plain (store t v x)).1 };
-      other = λ u v x h r. record { count = (plain (store u v x)).0; rule = one.rule u v x h r.rule; tidy = (plain (store u v x)).1 };
+      own = λ v x e. record { count = (plain (store k t v x)).0; rule = (parts_passed K t v x e).1; tidy = (plain (store k t v x)).1 };
+      other = λ u v x h r. record { count = (plain (store k u v x)).0; rule = one.rule u v x h r.rule; tidy = (plain (store k u v x)).1 };
     };
     again = λ s z c e. one.again s e;
   }
 
   -- by the table of lengths: one item of w bytes
-  one-length : (t w : ℕ) → (items_of t).most ≡ 1 → (items_of t).width ≡ w → length_permitted t w ≡ true → OneLength (site_kind k) t w
-  one-length t w one wide ok = (λ n p. one_item t n one p ∙ wide, ok)
+  one-length : (t w : ℕ) → (items_of k t).most ≡ 1 → (items_of k t).width ≡ w → length_permitted k t w ≡ true → OneLength K t w
+  one-length t w one wide ok = (λ n p. one_item k t n one p ∙ wide, ok)
 
   -- a field of many items
-  many_part : (t : ℕ) → Kept (site_kind k) t
-      → ((v : List ℕ) (x : Site) → length_permitted t (length v) ≡ true → (count_rule t (store t v x) ≡ Ok tt) × Tidy t (store t v x))
-      → ((u : ℕ) (v : List ℕ) (x : Site) → (u ≡ t → ⊥) → (count_rule t x ≡ Ok tt) × Tidy t x → (count_rule t (store u v x) ≡ Ok tt) × Tidy t (store u v x))
-      → ((u : ℕ) (v : List ℕ) (x : Site) → (u ≡ t → ⊥) → value_rule t x ≡ Ok tt → value_rule t (store u v x) ≡ Ok tt)
-      → ((s : Site) → Sized s → count_rule t s ≡ Ok tt → value_rule t s ≡ Ok tt → (x : Site) → field_rule (site_kind k) t (value t s) x ≡ Ok tt) → TagLaws t
+  many_part : (t : ℕ) → Kept K t
+      → ((v : List ℕ) (x : Site) → length_permitted k t (length v) ≡ true → Counted t (store k t v x))
+      → ((u : ℕ) (v : List ℕ) (x : Site) → (u ≡ t → ⊥) → Counted t x → Counted t (store k u v x))
+      → ((u : ℕ) (v : List ℕ) (x : Site) → (u ≡ t → ⊥) → value_rule list k t x ≡ Ok tt → value_rule list k t (store k u v x) ≡ Ok tt)
+      → Again t → TagLaws t
   many_part t kept own other rule again = record {
     kept = kept;
     read = record {
-      own = λ v x e. let p = own v x (parts_passed (site_kind k) t v x e).0 in record { count = p.0; rule = (parts_passed (site_kind k) t v x e).1; tidy = p.1 };
+      own = λ v x e. let p = own v x (parts_passed K t v x e).0 in record { count = p.0; rule = (parts_passed K t v x e).1; tidy = p.1 };
       other = λ u v x h r. let p = other u v x h (r.count, r.tidy) in record { count = p.0; rule = rule u v x h r.rule; tidy = p.1 };
     };
     again = again;
   }
 
-  name_again : (s : Site) → Sized s → count_rule 1 s ≡ Ok tt → value_rule 1 s ≡ Ok tt → (x : Site) → field_rule (site_kind k) 1 (value 1 s) x ≡ Ok tt
+  name_again : Again 1
   unfolding value value_rule store field_rule
   name_again s z c e x =
       let name = take s.name.len s.name.bytes in
       let l = name_long s z c in
       let few = name_counts s z c in
       let n8 : length name ≤ 8 = omega arith in
-      rw (parts_permitted 1 (length name) (omega arith) n8 (omega arith), take-tabulate 8 name 0 n8) e
+      rw (parts_permitted k 1 (length name) (omega arith) n8 (omega arith), take-tabulate 8 name 0 n8) e
 
-  stand_again : (s : Site) → Sized s → count_rule 7 s ≡ Ok tt → value_rule 7 s ≡ Ok tt → (x : Site) → field_rule (site_kind k) 7 (value 7 s) x ≡ Ok tt
+  stand_again : Again 7
   unfolding value value_rule store field_rule
   stand_again s z c e x =
       let es = take s.stand.count s.stand.entries in
-      let b = bytes_long s z c in
       let l = stand_long s z c in
       let few = stand_counts s z c in
       let n4 : length es ≤ 4 = omega arith in
       let t : take s.stand.count (tabulate 4 (λ i. get_or es i no_entry)) ≡ es = rw l at (take-tabulate 4 es no_entry n4) in
-      rw (b, parts_permitted 7 (4 * s.stand.count) (omega arith) (omega arith) (omega arith), quarter, stand_back 4 es, t) e
+      let q = entries_span k s.stand.count few.0 few.1 in
+      rw (bytes_long s z c k, parts_permitted k 7 (entry_width k * s.stand.count) q.0 q.1 q.2, q.3, stand_back k 4 es (entries_ranged list k s e), t) e
 
   name_tag : TagLaws 1
   unfolding value value_rule store
   name_tag =
       many_part 1
-      (record { own = λ v x p b. name_kept v (parts_passed (site_kind k) 1 v x p).0; other = λ u v x h. rw (ne_eqb u 1 h) })
-      name_own name_other (λ u v x h e. rw (ne_eqb u 1 h) e) name_again
+      (record { own = λ v x p b. name_kept k v (parts_passed K 1 v x p).0; other = λ u v x h. rw (ne_eqb u 1 h) })
+      (name_own k) (name_other k) (λ u v x h e. rw (ne_eqb u 1 h) e) name_again
 
   stand_tag : TagLaws 7
   unfolding value value_rule store
   stand_tag =
       many_part 7
-      (record { own = λ v x p b. stand_kept v (parts_passed (site_kind k) 7 v x p).0 b; other = λ u v x h. rw (ne_eqb u 7 h) })
-      stand_own stand_other (λ u v x h e. rw (ne_eqb u 7 h) e) stand_again
+      (record { own = λ v x p b. stand_kept k v (parts_passed K 7 v x p).0 b; other = λ u v x h. rw (ne_eqb u 7 h) })
+      (stand_own k) (stand_other k) (λ u v x h e. rw (ne_eqb u 7 h) e) stand_again
 
   -- ---- all fields: a line for each tag
 
@@ -167,27 +182,28 @@ module _ (k : RecordKind) where
   unfolding value value_rule store count_rule item_count Tidy length_permitted
   with_first_fifteen ts more =
       name_tag
-      ▸ one_tag 2 (byte_item (site_kind k) 2 (λ s. s.parent) (between parent_range) (one-length 2 1 refl refl refl) (λ s v. (refl, refl, refl)) (λ u v x h. rw (ne_eqb u 2 h))) (λ s. (refl, tt))
-      ▸ one_tag 3 (pair_item (site_kind k) 3 (λ s. (s.clay, s.sand)) (λ b. ranged (leb (b.0 + b.1) 100)) (one-length 3 2 refl refl refl) (λ s v. (refl, refl, refl)) (λ u v x h. rw (ne_eqb u 3 h))) (λ s. (refl, tt))
-      ▸ one_tag 4 (byte_item (site_kind k) 4 (λ s. s.depth) (between depth_range) (one-length 4 1 refl refl refl) (λ s v. (refl, refl, refl)) (λ u v x h. rw (ne_eqb u 4 h))) (λ s. (refl, tt))
-      ▸ one_tag 5 (byte_item (site_kind k) 5 (λ s. s.drainage) (between drainage_range) (one-length 5 1 refl refl refl) (λ s v. (refl, refl, refl)) (λ u v x h. rw (ne_eqb u 5 h))) (λ s. (refl, tt))
-      ▸ one_tag 6 (word_item (site_kind k) 6 (λ s. s.percolation) (between percolation_range) (one-length 6 2 refl refl refl) (λ s v. (refl, refl, refl)) (λ u v x h. rw (ne_eqb u 6 h))) (λ s. (refl, tt))
+      ▸ one_tag 2 (byte_item K 2 (λ s. s.parent) (between parent_range) (one-length 2 1 refl refl refl) (λ s v. (refl, refl, refl)) (λ u v x h. rw (ne_eqb u 2 h))) (λ s. (refl, tt))
+      ▸ one_tag 3 (pair_item K 3 (λ s. (s.clay, s.sand)) (λ b. ranged (leb (b.0 + b.1) 100)) (one-length 3 2 refl refl refl) (λ s v. (refl, refl, refl)) (λ u v x h. rw (ne_eqb u 3 h))) (λ s. (refl, tt))
+      ▸ one_tag 4 (byte_item K 4 (λ s. s.depth) (between depth_range) (one-length 4 1 refl refl refl) (λ s v. (refl, refl, refl)) (λ u v x h. rw (ne_eqb u 4 h))) (λ s. (refl, tt))
+      ▸ one_tag 5 (byte_item K 5 (λ s. s.drainage) (between drainage_range) (one-length 5 1 refl refl refl) (λ s v. (refl, refl, refl)) (λ u v x h. rw (ne_eqb u 5 h))) (λ s. (refl, tt))
+      ▸ one_tag 6 (word_item K 6 (λ s. s.percolation) (between percolation_range) (one-length 6 2 refl refl refl) (λ s v. (refl, refl, refl)) (λ u v x h. rw (ne_eqb u 6 h))) (λ s. (refl, tt))
       ▸ stand_tag
-      ▸ one_tag 8 (word_item (site_kind k) 8 (λ s. s.immobilisation) (between immobilisation_range) (one-length 8 2 refl refl refl) (λ s v. (refl, refl, refl)) (λ u v x h. rw (ne_eqb u 8 h))) (λ s. (refl, tt))
-      ▸ one_tag 9 (byte_item (site_kind k) 9 (λ s. s.available) (between available_range) (one-length 9 1 refl refl refl) (λ s v. (refl, refl, refl)) (λ u v x h. rw (ne_eqb u 9 h))) (λ s. (refl, tt))
-      ▸ one_tag 10 (word_item (site_kind k) 10 (λ s. s.base_deposition) (between base_deposition_range) (one-length 10 2 refl refl refl) (λ s v. (refl, refl, refl)) (λ u v x h. rw (ne_eqb u 10 h))) (λ s. (refl, tt))
-      ▸ one_tag 11 (word_item (site_kind k) 11 (λ s. s.ratio) (between ratio_range) (one-length 11 2 refl refl refl) (λ s v. (refl, refl, refl)) (λ u v x h. rw (ne_eqb u 11 h))) (λ s. (refl, tt))
-      ▸ one_tag 12 (word_item (site_kind k) 12 (λ s. s.gibbsite) (between gibbsite_range) (one-length 12 2 refl refl refl) (λ s v. (refl, refl, refl)) (λ u v x h. rw (ne_eqb u 12 h))) (λ s. (refl, tt))
-      ▸ one_tag 13 (word_item (site_kind k) 13 (λ s. s.ceiling) (between ceiling_range) (one-length 13 2 refl refl refl) (λ s v. (refl, refl, refl)) (λ u v x h. rw (ne_eqb u 13 h))) (λ s. (refl, tt))
-      ▸ one_tag 14 (word_item (site_kind k) 14 (λ s. s.leachate) (between leachate_range) (one-length 14 2 refl refl refl) (λ s v. (refl, refl, refl)) (λ u v x h. rw (ne_eqb u 14 h))) (λ s. (refl, tt))
-      ▸ one_tag 15 (words_item (site_kind k) 15 (λ s. (s.sulphur, s.nitrogen)) (λ b. (Ok tt)) (one-length 15 4 refl refl refl) (λ s v. (refl, refl, refl)) (λ u v x h. rw (ne_eqb u 15 h))) (λ s. (refl, tt))
+      ▸ one_tag 8 (word_item K 8 (λ s. s.immobilisation) (between immobilisation_range) (one-length 8 2 refl refl refl) (λ s v. (refl, refl, refl)) (λ u v x h. rw (ne_eqb u 8 h))) (λ s. (refl, tt))
+      ▸ one_tag 9 (byte_item K 9 (λ s. s.available) (between available_range) (one-length 9 1 refl refl refl) (λ s v. (refl, refl, refl)) (λ u v x h. rw (ne_eqb u 9 h))) (λ s. (refl, tt))
+      ▸ one_tag 10 (word_item K 10 (λ s. s.base_deposition) (between base_deposition_range) (one-length 10 2 refl refl refl) (λ s v. (refl, refl, refl)) (λ u v x h. rw (ne_eqb u 10 h))) (λ s. (refl, tt))
+      ▸ one_tag 11 (word_item K 11 (λ s. s.ratio) (between ratio_range) (one-length 11 2 refl refl refl) (λ s v. (refl, refl, refl)) (λ u v x h. rw (ne_eqb u 11 h))) (λ s. (refl, tt))
+      ▸ one_tag 12 (word_item K 12 (λ s. s.gibbsite) (between gibbsite_range) (one-length 12 2 refl refl refl) (λ s v. (refl, refl, refl)) (λ u v x h. rw (ne_eqb u 12 h))) (λ s. (refl, tt))
+      ▸ one_tag 13 (word_item K 13 (λ s. s.ceiling) (between ceiling_range) (one-length 13 2 refl refl refl) (λ s v. (refl, refl, refl)) (λ u v x h. rw (ne_eqb u 13 h))) (λ s. (refl, tt))
+      ▸ one_tag 14 (word_item K 14 (λ s. s.leachate) (between leachate_range) (one-length 14 2 refl refl refl) (λ s v. (refl, refl, refl)) (λ u v x h. rw (ne_eqb u 14 h))) (λ s. (refl, tt))
+      ▸ one_tag 15 (words_item K 15 (λ s. (s.sulphur, s.nitrogen)) (λ b. (Ok tt)) (one-length 15 4 refl refl refl) (λ s v. (refl, refl, refl)) (λ u v x h. rw (ne_eqb u 15 h))) (λ s. (refl, tt))
       ▸ more
 
   temperature_tag : TagLaws 16
   unfolding value value_rule store count_rule item_count Tidy length_permitted
   temperature_tag =
-      one_tag 16 (byte_item (site_kind k) 16 (λ s. s.temperature) (between temperature_range) (one-length 16 1 refl refl refl) (λ s v. (refl, refl, refl)) (λ u v x h. rw (ne_eqb u 16 h))) (λ s. (refl, tt))
+      one_tag 16 (byte_item K 16 (λ s. s.temperature) (between temperature_range) (one-length 16 1 refl refl refl) (λ s v. (refl, refl, refl)) (λ u v x h. rw (ne_eqb u 16 h))) (λ s. (refl, tt))
 
-pub tags : (k : RecordKind) → All (TagLaws k) (due k)
-tags Tag52 = with_first_fifteen Tag52 [] none
-tags Tag53 = with_first_fifteen Tag53 (16 ∷ []) (temperature_tag Tag53 ▸ none)
+pub tags : (list : List ℕ) (k : RecordKind) → All (TagLaws list k) (due k)
+tags list Tag52 = with_first_fifteen list Tag52 [] none
+tags list Tag53 = with_first_fifteen list Tag53 (16 ∷ []) (temperature_tag list Tag53 ▸ none)
+tags list Tag54 = with_first_fifteen list Tag54 (16 ∷ []) (temperature_tag list Tag54 ▸ none)

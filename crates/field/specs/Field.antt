@@ -1,5 +1,5 @@
 -- The fields of a site record by tag, both ways: a value taken into a site, and the bytes of a site's value.
-use Rattle.std.specs.Prelude.{ℕ, ◌*◌, ◌/◌, List, [], ◌∷◌, ◌++◌, eqb, get_or, length, take, replicate}
+use Rattle.std.specs.Prelude.{ℕ, ◌*◌, ◌/◌, ◌%◌, List, [], ◌∷◌, ◌++◌, eqb, get_or, length, take, replicate}
 use Rattle.site.specs.declared.Entry.{Entry}
 use Rattle.site.specs.declared.Site.{Site}
 use Rattle.site.specs.Bounds.{no_entry}
@@ -36,9 +36,9 @@ store k t v s = record {
   temperature = pick (eqb t 16) (get_or v 0 0) s.temperature;
 }
 
--- the bytes of a species number, and of entries
+-- the bytes of a species number: both, or the low one alone, which is the number itself below 256, as in every site that passes; and of entries
 abbrev pub species_bytes : RecordKind → ℕ → List ℕ
-species_bytes k n = pick (two_byte_species k) (word_bytes n) (n ∷ [])
+species_bytes k n = pick (two_byte_species k) (word_bytes n) (n % 256 ∷ [])
 
 unfoldable pub entry_bytes : RecordKind → Entry → List ℕ
 entry_bytes k e = species_bytes k e.species ++ e.share ∷ word_bytes e.yield_kg

@@ -6,7 +6,9 @@ ghost use Rattle.field.specs.Field.{site_kind, store, taken};
 ghost use Rattle.field.specs.Kind.{field_rule};
 
 use numbers::{byte, word_at};
-use site::{Name, Rule, Site, SpeciesList, Stand, entries_in, length_permitted, name_in, value_rule};
+use site::{
+    Name, Rule, Site, SpeciesList, Stand, entries_in, length_permitted, name_in, value_rule,
+};
 
 // The value of a field of a permitted length, put into the site.
 #[tactic(auto, using(site::proofs::LengthLaws::permitted_parts, site::proofs::LengthLaws::permitted_tag, site::proofs::MatchLaws::none_left), unfolding(crate::specs::Field::store))]
@@ -55,13 +57,8 @@ fn store(site: &mut Site, tag: u8, value: &[u8])
 }
 
 // Rules 7 to 10 and 16 of a field. Its value stands in the site where its length is permitted, also if a later rule refuses it.
-#[tactic(auto, using(crate::proofs::TakenLaws::field_numbered), unfolding(crate::specs::Field::taken, crate::specs::Kind::field_rule))]
-pub fn take_field(
-    site: &mut Site,
-    tag: u8,
-    value: &[u8],
-    list: SpeciesList<'_>,
-) -> Result<(), Rule>
+#[tactic(auto, using(crate::proofs::TakenLaws::field_numbered, crate::proofs::TakenLaws::store_kind), unfolding(crate::specs::Field::taken, crate::specs::Kind::field_rule))]
+pub fn take_field(site: &mut Site, tag: u8, value: &[u8], list: SpeciesList<'_>) -> Result<(), Rule>
     ensures answer { result ≡ field_rule (site_kind list.entry.bytes.now site.old.kind) tag value.now site.old }
     ensures stored { site.new ≡ taken site.old.kind tag value.now site.old }
     ensures number { Numbered (field_rule (site_kind list.entry.bytes.now site.old.kind) tag value.now site.old) (checked_number result) }

@@ -8,9 +8,10 @@ use Rattle.site.specs.declared.Site.{Site}
 use Rattle.std.specs.Prelude.{Ok, flat_map}
 use Rattle.site.specs.Check.{site_rule}
 use Rattle.site.specs.declared.RecordKind.{RecordKind}
-use Rattle.site.specs.declared.RecordKind.TheVariants.{Tag52, Tag53}
-use Rattle.site.specs.Kinds.{kind_tag, due}
+use Rattle.site.specs.declared.RecordKind.TheVariants.{Tag52, Tag53, Tag54}
+use Rattle.site.specs.Kinds.{kind_tag, due, entry_width}
 use Rattle.site.proofs.FieldLaws.{site_passed}
+use Rattle.site.proofs.LengthLaws.{longest}
 use Rattle.record.specs.FieldParts.{field_of}
 use Rattle.field.specs.Field.{entries_bytes, value, site_kind}
 use Rattle.field.specs.Kind.{Kind}
@@ -20,6 +21,7 @@ use Rattle.record.specs.Writer.{encode, added_length}
 use Rattle.output.specs.Writing.{Wrote, WroteIf}
 use Rattle.output.proofs.WritingLaws.{then, kept}
 use Rattle.site.proofs.Tags.{tags_from, tags_more, due_tags}
+use Rattle.field.proofs.EntryLaws.{entries_span}
 use Rattle.field.proofs.FieldValueLaws.{name_counts, name_long, stand_counts, bytes_long}
 
 -- head, then value: the field
@@ -41,9 +43,19 @@ pub fields_long : {A : Type 0} (K : Kind A) (x : A) (last t : ℕ) → t ≤ las
 unfolding encode_fields
 fields_long K x last t h = rw (tags_more last t h) (length-append (field_of t (K.bytes t x)) (encode_fields K (tags_from last (t + 1)) x))
 
+-- no list has a part in the bytes
+pub fields_same : (list : List ℕ) (k : RecordKind) (ts : List ℕ) (s : Site) → encode_fields (site_kind list k) ts s ≡ encode_fields (site_kind [] k) ts s
+unfolding encode_fields
+fields_same list k [] s = refl
+fields_same list k (t ∷ ts) s = ap (λ (l : List ℕ). field_of t (value k t s) ++ l) (fields_same list k ts s)
+
+pub encode_same : (list : List ℕ) (k : RecordKind) (s : Site) → encode_as (site_kind list k) s ≡ encode_as (site_kind [] k) s
+unfolding encode_as
+encode_same list k s = ap (field_of (kind_tag k)) (fields_same list k (due k) s)
+
 -- all the fields of a site's record
-pub fields_first : (s : Site) → encode_fields (site_kind s.kind) (due s.kind) s ≡ encode_fields (site_kind s.kind) (tags_from (length (due s.kind)) 1) s
-fields_first s = ap (λ ts. encode_fields (site_kind s.kind) ts s) (due_tags s.kind)
+pub fields_first : (s : Site) → encode_fields (site_kind [] s.kind) (due s.kind) s ≡ encode_fields (site_kind [] s.kind) (tags_from (length (due s.kind)) 1) s
+fields_first s = ap (λ ts. encode_fields (site_kind [] s.kind) ts s) (due_tags s.kind)
 
 -- a field, then the others
 pub fields_more : {A : Type 0} (K : Kind A) (x : A) {l b c : List ℕ} {at q r : ℕ} (last t : ℕ) → t ≤ last
@@ -72,30 +84,32 @@ module _ {A : Type 0} (K : Kind A) (s : A) where
   encode_wrote e v w = field_wrote K.tag (encode_fields K K.due s) e v w
 
 -- the same of a site
-pub record_wrote : {l b c : List ℕ} {at n q r : ℕ} (s : Site) → n ≡ length (encode_fields (site_kind s.kind) (due s.kind) s)
-    → Wrote l at (kind_tag s.kind ∷ (n / 256) ∷ (n % 256) ∷ []) b q → Wrote b q (encode_fields (site_kind s.kind) (due s.kind) s) c r → Wrote l at (encode s) c r
-record_wrote s e v w = encode_wrote (site_kind s.kind) s e v w
+pub record_wrote : {l b c : List ℕ} {at n q r : ℕ} (s : Site) → n ≡ length (encode_fields (site_kind [] s.kind) (due s.kind) s)
+    → Wrote l at (kind_tag s.kind ∷ (n / 256) ∷ (n % 256) ∷ []) b q → Wrote b q (encode_fields (site_kind [] s.kind) (due s.kind) s) c r → Wrote l at (encode s) c r
+record_wrote s e v w = encode_wrote (site_kind [] s.kind) s e v w
 
 -- 15 heads, 24 bytes of values of one length, the name and the entries, then the fields after 0F
-fields_length : (k : RecordKind) (s : Site) → length (encode_fields (site_kind k) (due k) s)
-    ≡ 69 + length (take s.name.len s.name.bytes) + length (entries_bytes (take s.stand.count s.stand.entries)) + added_length k
+fields_length : (k : RecordKind) (s : Site) → length (encode_fields (site_kind [] k) (due k) s)
+    ≡ 69 + length (take s.name.len s.name.bytes) + length (entries_bytes k (take s.stand.count s.stand.entries)) + added_length k
 unfolding encode_fields value field_of
 fields_length Tag52 s = simp length-append (omega arith)
 fields_length Tag53 s = simp length-append (omega arith)
+fields_length Tag54 s = simp length-append (omega arith)
 
 added_few : (k : RecordKind) → added_length k ≤ 4
 added_few Tag52 = omega arith
 added_few Tag53 = omega arith
+added_few Tag54 = omega arith
 
-module _ (s : Site) (z : Sized s) (e : site_rule s ≡ Ok tt) where
-  pub record_length : length (encode s) ≡ 3 + (69 + s.name.len + 4 * s.stand.count + added_length s.kind)
+module _ (list : List ℕ) (s : Site) (z : Sized s) (e : site_rule list s ≡ Ok tt) where
+  pub record_length : length (encode s) ≡ 3 + (69 + s.name.len + entry_width s.kind * s.stand.count + added_length s.kind)
   record_length =
-      let n = name_long s z (site_passed s e 1 (omega arith) (omega arith)).0 in
-      let b = bytes_long s z (site_passed s e 7 (omega arith) (omega arith)).0 in
-      omega (arith, encode_length (site_kind s.kind) s, fields_length s.kind s)
+      let n = name_long s z (site_passed list s e 1 (omega arith) (omega arith)).0 in
+      let b = bytes_long s z (site_passed list s e 7 (omega arith) (omega arith)).0 s.kind in
+      omega (arith, encode_length (site_kind [] s.kind) s, fields_length s.kind s)
 
-  pub fields_small : length (encode_fields (site_kind s.kind) (due s.kind) s) ≤ 255
+  pub fields_small : length (encode_fields (site_kind [] s.kind) (due s.kind) s) ≤ 255
   fields_small =
-      let n = name_counts s z (site_passed s e 1 (omega arith) (omega arith)).0 in
-      let b = stand_counts s z (site_passed s e 7 (omega arith) (omega arith)).0 in
-      omega (arith, encode_length (site_kind s.kind) s, record_length, added_few s.kind)
+      let n = name_counts s z (site_passed list s e 1 (omega arith) (omega arith)).0 in
+      let b = stand_counts s z (site_passed list s e 7 (omega arith) (omega arith)).0 in
+      omega (arith, encode_length (site_kind [] s.kind) s, record_length, added_few s.kind, (entries_span s.kind s.stand.count b.0 b.1).1, longest s.kind 7)

@@ -1,18 +1,21 @@
--- Record A1 of document 01: 78 bytes, read and written again by the definitions; and the same site at 20 °C, the greatest temperature, a record of kind 53.
+-- Record A1 of document 01: 78 bytes, read and written again by the definitions; the same site at 20 °C, the greatest temperature, a record of kind 53; and with a
+-- stand of which one species stands in a list, a record of kind 54.
 use mathlib.Core.Path.{◌≡◌, refl}
 use mathlib.Core.List.{List, [], ◌∷◌, ◌++◌}
 use Prim.Native.Nat.{ℕ}
-use lib.ListN.{drop}
-use Rattle.site.specs.declared.RecordKind.TheVariants.{Tag53}
+use lib.ListN.{take, drop}
+use Rattle.site.specs.declared.RecordKind.TheVariants.{Tag53, Tag54}
 use Rattle.site.specs.declared.Site.{Site}
 use Rattle.std.specs.Prelude.{Ok}
 use Rattle.site.specs.ExampleSite.{a1}
 use Rattle.site.specs.Bytes.{tabulate, entry_at}
-use Rattle.field.specs.Field.{store, entries_bytes, blank_site, blank_of, value}
+use Rattle.field.specs.Field.{store, entry_bytes, entries_bytes, blank_site, blank_of, value}
 use Rattle.field.specs.Kind.{field_rule}
-use Rattle.site.specs.Values.{length_permitted, value_rule, stand_rule, between, name_byte, entry_ranged, rising_from, shares_of}
+use Rattle.site.specs.Values.{length_permitted, value_rule, stand_rule, entries_rule, known_rule, species_known, between, name_byte, entry_ranged, rising_from, shares_of}
 use Rattle.record.specs.FieldParts.{field_of}
-use Rattle.site.specs.Refusal.{unless}
+use Rattle.site.specs.Refusal.{and_then, unless}
+use Rattle.site.specs.SpeciesList.{first_failing, good_entry, least_at, first_bad, list_rule, place_of, lists}
+use Rattle.site.specs.Bounds.{no_entry}
 use Rattle.record.specs.Fields.{head_rule, walk_fields, encode_fields, encode_as}
 use Rattle.record.specs.Records.{outer_rule, ending, record_in, only_one, single}
 use Rattle.record.specs.Outer.{site_tag, site_kinds, site_at, read_record}
@@ -38,12 +41,13 @@ bytes_a1 =
     ∷ 15 ∷ 0 ∷ 4 ∷ 1 ∷ 244 ∷ 2 ∷ 188
     ∷ []
 
-pub a1_read : read_record bytes_a1 ≡ Ok a1
-unfolding read_record single only_one site_at record_in ending outer_rule head_rule unless walk_fields field_rule length_permitted tabulate entry_at store value_rule stand_rule between name_byte entry_ranged rising_from shares_of blank_of blank_site site_tag site_kinds
-a1_read = refl
+-- whatever the list
+pub a1_read : (list : List ℕ) → read_record list bytes_a1 ≡ Ok a1
+unfolding read_record single only_one site_at record_in ending outer_rule head_rule unless walk_fields field_rule length_permitted tabulate entry_at store value_rule and_then stand_rule entries_rule known_rule species_known lists place_of first_failing between name_byte entry_ranged rising_from shares_of blank_of blank_site site_tag site_kinds
+a1_read list = refl
 
 pub a1_written : encode a1 ≡ bytes_a1
-unfolding encode_as encode_fields field_of value entries_bytes
+unfolding encode_as encode_fields field_of value entry_bytes entries_bytes
 a1_written = refl
 
 -- A1 at 20 °C: the outer tag 53, 79 bytes of fields, and the field 10 after 0F
@@ -53,10 +57,44 @@ bytes_a1_20 = 83 ∷ 0 ∷ 79 ∷ drop 3 bytes_a1 ++ 16 ∷ 0 ∷ 1 ∷ 25 ∷ [
 abbrev a1_20 : Site
 a1_20 = record a1 { kind = Tag53; temperature = 25 }
 
-a1_20_read : read_record bytes_a1_20 ≡ Ok a1_20
-unfolding read_record single only_one site_at record_in ending outer_rule head_rule unless walk_fields field_rule length_permitted tabulate entry_at store value_rule stand_rule between name_byte entry_ranged rising_from shares_of blank_of blank_site site_tag site_kinds
-a1_20_read = refl
+a1_20_read : (list : List ℕ) → read_record list bytes_a1_20 ≡ Ok a1_20
+unfolding read_record single only_one site_at record_in ending outer_rule head_rule unless walk_fields field_rule length_permitted tabulate entry_at store value_rule and_then stand_rule entries_rule known_rule species_known lists place_of first_failing between name_byte entry_ranged rising_from shares_of blank_of blank_site site_tag site_kinds
+a1_20_read list = refl
 
 a1_20_written : encode a1_20 ≡ bytes_a1_20
-unfolding encode_as encode_fields field_of value entries_bytes
+unfolding encode_as encode_fields field_of value entry_bytes entries_bytes
 a1_20_written = refl
+
+-- a list of one species, 258: its contents are those of pine
+abbrev pub one_species : List ℕ
+one_species = 1 ∷ 2 ∷ 21 ∷ 13 ∷ 7 ∷ 188 ∷ 6 ∷ 124 ∷ 30 ∷ 102 ∷ []
+
+one_species_good : list_rule one_species ≡ Ok tt
+unfolding list_rule first_bad first_failing good_entry least_at
+one_species_good = refl
+
+-- spruce and the listed species: the outer tag 54, 85 bytes of fields, and in field 07 two entries of five bytes
+abbrev pub bytes_a1_54 : List ℕ
+bytes_a1_54 =
+    84 ∷ 0 ∷ 85
+    ∷ take 27 (drop 3 bytes_a1)
+    ++ 7 ∷ 0 ∷ 10 ∷ 0 ∷ 1 ∷ 60 ∷ 7 ∷ 208 ∷ 1 ∷ 2 ∷ 40 ∷ 19 ∷ 136
+    ∷ drop 37 bytes_a1
+    ++ 16 ∷ 0 ∷ 1 ∷ 25 ∷ []
+
+abbrev pub a1_54 : Site
+a1_54 = record a1_20 {
+  kind = Tag54;
+  stand = record {
+    entries = record { species = 1; share = 60; yield_kg = 2000 } ∷ record { species = 258; share = 40; yield_kg = 5000 } ∷ no_entry ∷ no_entry ∷ [];
+    count = 2;
+  };
+}
+
+a1_54_read : read_record one_species bytes_a1_54 ≡ Ok a1_54
+unfolding read_record single only_one site_at record_in ending outer_rule head_rule unless walk_fields field_rule length_permitted tabulate entry_at store value_rule and_then stand_rule entries_rule known_rule species_known lists place_of first_failing between name_byte entry_ranged rising_from shares_of blank_of blank_site site_tag site_kinds
+a1_54_read = refl
+
+a1_54_written : encode a1_54 ≡ bytes_a1_54
+unfolding encode_as encode_fields field_of value entry_bytes entries_bytes
+a1_54_written = refl

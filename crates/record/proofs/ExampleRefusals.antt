@@ -1,14 +1,15 @@
--- For each refusal of document 01, and for those of kind 53, bytes that get it, with its number and offset, and bytes with two faults: the definitions say the same.
+-- For each refusal of document 01, and for those of kinds 53 and 54, bytes that get it, with its number and offset, and bytes with two faults: the definitions say the same.
 use mathlib.Core.Path.{◌≡◌, refl}
 use mathlib.Core.List.{List, [], ◌∷◌, ◌++◌, map}
 use Prim.Native.Nat.{ℕ}
 use lib.ListN.{take, drop}
 use Rattle.site.specs.ExampleSite.{a1}
 use Rattle.site.specs.Refusal.{and_then, unless}
+use Rattle.site.specs.SpeciesList.{first_failing, place_of, lists}
 use Rattle.site.specs.Check.{fields_rule, site_rule}
 use Rattle.site.specs.Bytes.{tabulate, entry_at}
-use Rattle.site.specs.Values.{length_permitted, item_count, count_rule, value_rule, stand_rule, between, name_byte, entry_ranged, rising_from, shares_of}
-use Rattle.field.specs.Field.{store, entries_bytes, blank_site, blank_of, value}
+use Rattle.site.specs.Values.{length_permitted, item_count, count_rule, value_rule, stand_rule, entries_rule, known_rule, species_known, between, name_byte, entry_ranged, rising_from, shares_of}
+use Rattle.field.specs.Field.{store, entry_bytes, entries_bytes, blank_site, blank_of, value}
 use Rattle.field.specs.Kind.{field_rule}
 use Rattle.output.specs.Output.{room_rule, output_rule, output_numbers}
 use Rattle.record.specs.FieldParts.{field_of}
@@ -17,11 +18,15 @@ use Rattle.record.specs.Fields.{head_rule, walk_fields, encode_fields, encode_as
 use Rattle.record.specs.Records.{outer_rule, ending, record_in, only_one, single}
 use Rattle.record.specs.Outer.{site_tag, site_kinds, site_at, read_record}
 use Rattle.record.specs.Writer.{write_rule}
-use Rattle.record.proofs.ExampleRecord.{bytes_a1, bytes_a1_20}
+use Rattle.record.proofs.ExampleRecord.{bytes_a1, bytes_a1_20, one_species, bytes_a1_54, a1_54}
 
 -- the fields 01 to 06 of A1
 abbrev to_stand : List ℕ
 to_stand = take 27 (drop 3 bytes_a1)
+
+-- a record of kind 54 that ends with a stand of one species
+abbrev of_species : (hi lo share : ℕ) → List ℕ
+of_species hi lo share = 84 ∷ 0 ∷ 35 ∷ to_stand ++ 7 ∷ 0 ∷ 5 ∷ hi ∷ lo ∷ share ∷ 7 ∷ 208 ∷ []
 
 pub record Refusal : Type 0 where
   pub bytes : List ℕ
@@ -33,7 +38,7 @@ refusals =
     ∷ record { bytes = 82 ∷ 0 ∷ []; given = (2, 0) }
     ∷ record { bytes = 82 ∷ 1 ∷ 0 ∷ []; given = (2, 0) }  -- a length of 256
     ∷ record { bytes = 82 ∷ 0 ∷ 1 ∷ []; given = (2, 0) }  -- beyond the end
-    ∷ record { bytes = 84 ∷ 0 ∷ 0 ∷ []; given = (3, 0) }
+    ∷ record { bytes = 85 ∷ 0 ∷ 0 ∷ []; given = (3, 0) }
     ∷ record { bytes = bytes_a1 ++ 82 ∷ []; given = (4, 78) }
     ∷ record { bytes = 82 ∷ 0 ∷ 1 ∷ 1 ∷ []; given = (5, 3) }
     ∷ record { bytes = 82 ∷ 0 ∷ 4 ∷ 1 ∷ 0 ∷ 2 ∷ 65 ∷ []; given = (5, 3) }  -- beyond its record
@@ -51,22 +56,38 @@ refusals =
     ∷ record { bytes = 83 ∷ 0 ∷ 79 ∷ drop 3 bytes_a1 ++ 16 ∷ 0 ∷ 1 ∷ 26 ∷ []; given = (8, 78) }  -- a temperature above 25
     ∷ record { bytes = 83 ∷ 0 ∷ 80 ∷ drop 3 bytes_a1 ++ 16 ∷ 0 ∷ 2 ∷ 0 ∷ 13 ∷ []; given = (7, 78) }
     ∷ record { bytes = bytes_a1_20 ++ 82 ∷ []; given = (4, 82) }
+    -- kind 54: entries of five bytes, and a species number that is none of 0 to 8 stands in the list
+    ∷ record { bytes = 82 ∷ 0 ∷ 34 ∷ to_stand ++ 7 ∷ 0 ∷ 4 ∷ 9 ∷ 100 ∷ 7 ∷ 208 ∷ []; given = (8, 30) }  -- species 9 in kind 52
+    ∷ record { bytes = 84 ∷ 0 ∷ 34 ∷ to_stand ++ 7 ∷ 0 ∷ 4 ∷ 0 ∷ 100 ∷ 7 ∷ 208 ∷ []; given = (7, 30) }
+    ∷ record { bytes = of_species 0 9 100; given = (8, 30) }
+    ∷ record { bytes = of_species 0 255 100; given = (8, 30) }
+    ∷ record { bytes = of_species 4 0 100; given = (8, 30) }  -- 1024
+    ∷ record { bytes = of_species 1 0 100; given = (16, 30) }  -- 256
+    ∷ record { bytes = of_species 3 255 100; given = (16, 30) }  -- 1023
+    ∷ record { bytes = of_species 1 2 100; given = (6, 38) }  -- 258 is listed, and none is left where 08 is due
+    ∷ record { bytes = 84 ∷ 0 ∷ 81 ∷ take 85 (drop 3 bytes_a1_54); given = (6, 84) }  -- none left where 10 is due
     -- two faults at one place: the first in 01's order
-    ∷ record { bytes = 84 ∷ 0 ∷ []; given = (2, 0) }  -- under 3 bytes, then the tag
-    ∷ record { bytes = 84 ∷ 255 ∷ 255 ∷ []; given = (3, 0) }  -- the tag, then the length
+    ∷ record { bytes = 85 ∷ 0 ∷ []; given = (2, 0) }  -- under 3 bytes, then the tag
+    ∷ record { bytes = 85 ∷ 255 ∷ 255 ∷ []; given = (3, 0) }  -- the tag, then the length
     ∷ record { bytes = 82 ∷ 0 ∷ 1 ∷ 2 ∷ []; given = (5, 3) }  -- under 3 bytes, then the tag
     ∷ record { bytes = 82 ∷ 0 ∷ 4 ∷ 2 ∷ 0 ∷ 5 ∷ 65 ∷ []; given = (6, 3) }  -- the tag, then the length
     ∷ record { bytes = 82 ∷ 0 ∷ 4 ∷ 1 ∷ 0 ∷ 9 ∷ 97 ∷ []; given = (5, 3) }  -- the length beyond its record, then the length that is not permitted
     ∷ record { bytes = 82 ∷ 0 ∷ 12 ∷ 1 ∷ 0 ∷ 9 ∷ 97 ∷ 97 ∷ 97 ∷ 97 ∷ 97 ∷ 97 ∷ 97 ∷ 97 ∷ 97 ∷ []; given = (7, 3) }  -- the length, then the range
     ∷ record { bytes = 82 ∷ 0 ∷ 38 ∷ to_stand ++ 7 ∷ 0 ∷ 8 ∷ 9 ∷ 50 ∷ 7 ∷ 208 ∷ 1 ∷ 50 ∷ 7 ∷ 208 ∷ []; given = (8, 30) }  -- the range, then the order
     ∷ record { bytes = 82 ∷ 0 ∷ 38 ∷ to_stand ++ 7 ∷ 0 ∷ 8 ∷ 1 ∷ 50 ∷ 7 ∷ 208 ∷ 1 ∷ 49 ∷ 7 ∷ 208 ∷ []; given = (9, 30) }  -- the order, then the shares
+    ∷ record { bytes = of_species 1 0 99; given = (10, 30) }  -- the shares, then the list
     ∷ []
 
-refusals_agree : map (λ (r : Refusal). result_numbers (read_record r.bytes)) refusals ≡ map (λ (r : Refusal). r.given) refusals
-unfolding result_numbers read_record single only_one site_at record_in ending outer_rule head_rule unless walk_fields field_rule length_permitted tabulate entry_at store value_rule stand_rule between name_byte entry_ranged rising_from shares_of blank_of blank_site site_tag site_kinds
+refusals_agree : map (λ (r : Refusal). result_numbers (read_record one_species r.bytes)) refusals ≡ map (λ (r : Refusal). r.given) refusals
+unfolding result_numbers read_record single only_one site_at record_in ending outer_rule head_rule unless walk_fields field_rule length_permitted tabulate entry_at store value_rule and_then stand_rule entries_rule known_rule species_known lists place_of first_failing between name_byte entry_ranged rising_from shares_of blank_of blank_site site_tag site_kinds
 refusals_agree = refl
 
 -- A1 has 78 bytes, and 77 are lent
-short_buffer : output_numbers (write_rule a1 77) 78 ≡ (11, 0)
-unfolding output_numbers output_rule room_rule and_then site_rule fields_rule count_rule item_count value_rule stand_rule between name_byte entry_ranged rising_from shares_of encode_as encode_fields field_of value entries_bytes
-short_buffer = refl
+short_buffer : (list : List ℕ) → output_numbers (write_rule list a1 77) 78 ≡ (11, 0)
+unfolding output_numbers output_rule room_rule and_then site_rule fields_rule count_rule item_count value_rule stand_rule entries_rule known_rule species_known between name_byte entry_ranged rising_from shares_of encode_as encode_fields field_of value entry_bytes entries_bytes
+short_buffer list = refl
+
+-- a site value whose species the list lacks, ahead of a short buffer
+not_listed_first : output_numbers (write_rule [] a1_54 0) 88 ≡ (16, 0)
+unfolding output_numbers output_rule room_rule and_then site_rule fields_rule count_rule item_count value_rule stand_rule entries_rule known_rule species_known lists place_of first_failing between name_byte entry_ranged rising_from shares_of encode_as encode_fields field_of value entry_bytes entries_bytes
+not_listed_first = refl

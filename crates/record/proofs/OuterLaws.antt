@@ -27,9 +27,9 @@ pub outer_past : (f : List ℕ) (at : ℕ) → length f ≤ at → outer_rule si
 unfolding outer_rule
 outer_past f at h = let e : drop at f ≡ [] = drop_of_length-le f {i = at} h in rw e
 
-pub site_past : (f : List ℕ) (at : ℕ) → length f ≤ at → site_at f at ≡ Err (record { rule = OuterCut; at = at })
+pub site_past : (list f : List ℕ) (at : ℕ) → length f ≤ at → site_at list f at ≡ Err (record { rule = OuterCut; at = at })
 unfolding site_at record_in unless
-site_past f at h = rw (outer_past f at h)
+site_past list f at h = rw (outer_past f at h)
 
 -- an outer field that passes lies within the bytes at whose front it stands
 pub outer_fits : (bs : List ℕ) → outer_rule site_tag bs ≡ Ok tt → 3 + stated_len bs ≤ length bs
@@ -50,34 +50,34 @@ unfolding site_tag
 kind_broken bs r = kind_refused (outer_rule site_tag bs) (kind_by (get_or bs 0 0)) r (λ c q. false≢true (rw q at (outer_passed site_tag bs c).tag))
 
 -- and where it gives the kind
-pub record KindRead (bs : List ℕ) (k : RecordKind) : Type 0 where
+pub record KindRead (list bs : List ℕ) (k : RecordKind) : Type 0 where
   pub passed : outer_rule site_tag bs ≡ Ok tt
-  pub kind : site_kinds (get_or bs 0 0) ≡ site_kind k
+  pub kind : site_kinds list (get_or bs 0 0) ≡ site_kind list k
 
-pub kind_read : (bs : List ℕ) (k : RecordKind) → and_then (outer_rule site_tag bs) (kind_by (get_or bs 0 0)) ≡ Ok k → KindRead bs k
+pub kind_read : (list bs : List ℕ) (k : RecordKind) → and_then (outer_rule site_tag bs) (kind_by (get_or bs 0 0)) ≡ Ok k → KindRead list bs k
 unfolding site_kinds
-kind_read bs k e =
+kind_read list bs k e =
     let p = then_ok (outer_rule site_tag bs) (kind_by (get_or bs 0 0)) e in
     record { passed = p.0; kind = rw p.1 }
 
 -- so the field lies within the bytes
 pub kind_fits : (bs : List ℕ) (k : RecordKind) → and_then (outer_rule site_tag bs) (kind_by (get_or bs 0 0)) ≡ Ok k → 3 + stated_len bs ≤ length bs
-kind_fits bs k e = outer_fits bs (kind_read bs k e).passed
+kind_fits bs k e = outer_fits bs (then_ok (outer_rule site_tag bs) (kind_by (get_or bs 0 0)) e).0
 
 -- the bytes bs that are left at the offset
-module _ (f : List ℕ) (at : ℕ) (bs : List ℕ) (is : bs ≡ drop at f) where
-  pub record_broken : (r : Rule) → and_then (outer_rule site_tag bs) (kind_by (get_or bs 0 0)) ≡ Err r → record_at f at ≡ Err (record { rule = r; at = at })
+module _ (list f : List ℕ) (at : ℕ) (bs : List ℕ) (is : bs ≡ drop at f) where
+  pub record_broken : (r : Rule) → and_then (outer_rule site_tag bs) (kind_by (get_or bs 0 0)) ≡ Err r → record_at list f at ≡ Err (record { rule = r; at = at })
   unfolding site_at record_in unless found_of
   record_broken r e = rw (← is, kind_broken bs r e)
 
   module _ (k : RecordKind) (read : and_then (outer_rule site_tag bs) (kind_by (get_or bs 0 0)) ≡ Ok k) (end : ℕ) (is_end : end ≡ 3 + stated_len bs) where
-    here : KindRead bs k
-    here = kind_read bs k read
+    here : KindRead list bs k
+    here = kind_read list bs k read
 
-    pub record_refused : (r : Refusal) → fields_in (site_kind k) (take (end - 3) (drop 3 bs)) (at + 3) ≡ Err r → record_at f at ≡ Err r
+    pub record_refused : (r : Refusal) → fields_in (site_kind list k) (take (end - 3) (drop 3 bs)) (at + 3) ≡ Err r → record_at list f at ≡ Err r
     unfolding site_at record_in unless ending found_of
     record_refused r e = let p = rw (is_end, add-sub_cancel_left) at e in rw (← is, here.passed, here.kind, p)
 
-    pub record_whole : (s : Site) → fields_in (site_kind k) (take (end - 3) (drop 3 bs)) (at + 3) ≡ Ok s → record_at f at ≡ Ok (record { site = s; next = at + end })
+    pub record_whole : (s : Site) → fields_in (site_kind list k) (take (end - 3) (drop 3 bs)) (at + 3) ≡ Ok s → record_at list f at ≡ Ok (record { site = s; next = at + end })
     unfolding site_at record_in unless ending found_of
     record_whole s e = let p = rw (is_end, add-sub_cancel_left) at e in rw (← is, here.passed, here.kind, p, is_end, add_assoc)

@@ -6,7 +6,7 @@ use lib.ListN.{length, get_or}
 use Rattle.site.specs.Ranges.{deposition_range}
 use Rattle.site.specs.declared.Site.{Site}
 use Rattle.site.specs.declared.RecordKind.{RecordKind}
-use Rattle.site.specs.declared.RecordKind.TheVariants.{Tag52, Tag53}
+use Rattle.site.specs.declared.RecordKind.TheVariants.{Tag52, Tag53, Tag54}
 use Rattle.site.specs.Kinds.{due}
 use Rattle.site.proofs.Tags.{first_fifteen}
 use mathlib.Core.Path.{◌≡◌, refl}
@@ -33,10 +33,11 @@ pub record PairRange (s : Site) : Type 0 where
 pair_place : (k : RecordKind) → get_or (due k) 14 0 ≡ 15
 pair_place Tag52 = refl
 pair_place Tag53 = refl
+pair_place Tag54 = refl
 
 pub pair_range : (s : Site) → AllBytes (encode s) → PairRange s
 unfolding encode_as field_of value
 pair_range s b =
     let place : 14 < length (due s.kind) = omega (arith, first_fifteen s.kind) in
-    let pair = rw (pair_place s.kind) at (field_bytes (site_kind s.kind) s (due s.kind) 14 place (λ i. b (suc (suc (suc i))))) in
+    let pair = rw (pair_place s.kind) at (field_bytes (site_kind [] s.kind) s (due s.kind) 14 place (λ i. b (suc (suc (suc i))))) in
     record { sulphur = omega (arith, pair 0); nitrogen = omega (arith, pair 2) }

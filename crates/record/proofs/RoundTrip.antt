@@ -30,84 +30,84 @@ use Rattle.record.proofs.SiteFile.{single_is}
 -- ---- what is written is read
 
 -- a site that passes is read again from its record, as `clean` has it: with zeros past its name and its entries, and the temperature that counts
-pub read_written : (s : Site) → Sized s → site_rule s ≡ Ok tt → read_record (encode s) ≡ Ok (clean s)
+pub read_written : (list : List ℕ) (s : Site) → Sized s → site_rule list s ≡ Ok tt → read_record list (encode s) ≡ Ok (clean s)
 unfolding read_record site_at
-read_written s z e =
+read_written list s z e =
     let bs = encode s in
-    let some : 1 ≤ length bs = omega (arith, encode_length (site_kind s.kind) s) in
+    let some : 1 ≤ length bs = omega (arith, encode_length (site_kind [] s.kind) s) in
     let end : 0 + length bs ≡ length bs = omega arith in
-    let q : record_in site_tag site_kinds bs 0 ≡ Ok (clean s, length bs) = rw (append-nil, end) at (site_read s z e [] 0) in
-    ok_single (site_at bs) (length bs) some q
+    let q : record_in site_tag (site_kinds list) bs 0 ≡ Ok (clean s, length bs) = rw (append-nil, end) at (site_read list s z e [] 0) in
+    ok_single (site_at list bs) (length bs) some q
 
 -- ---- what is read is written
 
-module _ (s : Site) (f : List ℕ) (e : read_record f ≡ Ok s) where
-  found_first : site_at f 0 ≡ Ok (s, length f)
+module _ (list : List ℕ) (s : Site) (f : List ℕ) (e : read_record list f ≡ Ok s) where
+  found_first : site_at list f 0 ≡ Ok (s, length f)
   unfolding read_record
-  found_first = single_ok (site_at f) (length f) e
+  found_first = single_ok (site_at list f) (length f) e
 
   -- a site that was read passes the check; past the name and the entries stand zeros, and in the temperature's place of kind 52 that of 8 °C
-  pub read_passes : site_rule s ≡ Ok tt
-  read_passes = site_passes f 0 found_first
+  pub read_passes : site_rule list s ≡ Ok tt
+  read_passes = site_passes list f 0 found_first
 
   pub read_clean : clean s ≡ s
-  read_clean = site_clean f 0 found_first
+  read_clean = site_clean list f 0 found_first
 
   written_read : AllBytes f → encode s ≡ f
   written_read b =
       let n : length f - 0 ≡ length f = omega arith in
       let t : take (length f) f ≡ f = take_all (length f) f (omega arith) in
-      rw n at (site_bytes f 0 found_first b) ∙ t
+      rw n at (site_bytes list f 0 found_first b) ∙ t
 
   -- an accepted record is written again byte for byte
-  pub writes_again : AllBytes f → WritesAgain s f
+  pub writes_again : AllBytes f → WritesAgain list s f
   writes_again b = record { passes = read_passes; bytes = written_read b }
 
--- two different records never read to one site
-pub read_injective : (s : Site) (f g : List ℕ) → AllBytes f → AllBytes g → read_record f ≡ Ok s → read_record g ≡ Ok s → f ≡ g
-read_injective s f g b c p q = sym (written_read s f p b) ∙ written_read s g q c
+-- two different records never read to one site, with one list or with two
+pub read_injective : (list more : List ℕ) (s : Site) (f g : List ℕ) → AllBytes f → AllBytes g → read_record list f ≡ Ok s → read_record more g ≡ Ok s → f ≡ g
+read_injective list more s f g b c p q = sym (written_read list s f p b) ∙ written_read more s g q c
 
 -- a file that is read is one record of at most 258 bytes, and no fault lies past that
-pub read_short : (f : List ℕ) {s : Site} → read_record f ≡ Ok s → length f ≤ most_record
-read_short f {s} e = site_near f 0 (found_first s f e)
+pub read_short : (list f : List ℕ) {s : Site} → read_record list f ≡ Ok s → length f ≤ most_record
+read_short list f {s} e = site_near list f 0 (found_first list s f e)
 
-pub read_fault_near : (f : List ℕ) {r : Refusal} → read_record f ≡ Err r → r.at ≤ most_record
+pub read_fault_near : (list f : List ℕ) {r : Refusal} → read_record list f ≡ Err r → r.at ≤ most_record
 unfolding alone
-read_fault_near f e =
-    omega (arith, file_fault_near (site_at f) most_record (λ at x r. site_near f at r) (λ at r e. site_fault_near f at e) (length f) 1 (single_is f ∙ ap alone e))
+read_fault_near list f e =
+    omega (arith, file_fault_near (site_at list f) most_record (λ at x r. site_near list f at r) (λ at r e. site_fault_near list f at e) (length f) 1 (single_is list f ∙ ap alone e))
 
 -- ---- the reader's promises follow from its answer
 
-read_again : (f : List ℕ) (q : Result Site Refusal) → AllBytes f → read_record f ≡ q → IfOk q (λ s. WritesAgain s f)
-read_again f (Ok s) b e = writes_again s f e b
-read_again f (Err r) b e = tt
+read_again : (list f : List ℕ) (q : Result Site Refusal) → AllBytes f → read_record list f ≡ q → IfOk q (λ s. WritesAgain list s f)
+read_again list f (Ok s) b e = writes_again list s f e b
+read_again list f (Err r) b e = tt
 
 alone_numbers : (q : Result Site Refusal) → result_numbers (alone q) ≡ result_numbers q
 unfolding result_numbers alone
 alone_numbers (Ok s) = refl
 alone_numbers (Err r) = refl
 
-pub read_answers : (f : List ℕ) (q : Result Site Refusal) → AllBytes f → read_record f ≡ q → record {
-  answer : q ≡ read_record f;
-  numbers : result_numbers q ≡ result_numbers (contents_by 1 (site_at f) (length f));
-  written_again : IfOk q (λ s. WritesAgain s f);
+pub read_answers : (list f : List ℕ) (q : Result Site Refusal) → AllBytes f → read_record list f ≡ q → record {
+  answer : q ≡ read_record list f;
+  numbers : result_numbers q ≡ result_numbers (contents_by 1 (site_at list f) (length f));
+  written_again : IfOk q (λ s. WritesAgain list s f);
 }
-read_answers f q b e = record { answer = sym e; numbers = sym (alone_numbers q) ∙ ap (λ x. result_numbers (alone x)) (sym e) ∙ ap result_numbers (sym (single_is f)); written_again = read_again f q b e }
+read_answers list f q b e = record { answer = sym e; numbers = sym (alone_numbers q) ∙ ap (λ x. result_numbers (alone x)) (sym e) ∙ ap result_numbers (sym (single_is list f)); written_again = read_again list f q b e }
 
-pub read_none : (f : List ℕ) → eqb (length f) 0 ≡ true → read_record f ≡ Err (record { rule = NoBytes; at = 0 })
+pub read_none : (list f : List ℕ) → eqb (length f) 0 ≡ true → read_record list f ≡ Err (record { rule = NoBytes; at = 0 })
 unfolding read_record single
-read_none f e = rw e
+read_none list f e = rw e
 
-module _ (f : List ℕ) (some : eqb (length f) 0 ≡ false) where
-  pub read_refused : (r : Refusal) → record_at f 0 ≡ Err r → read_record f ≡ Err r
+module _ (list f : List ℕ) (some : eqb (length f) 0 ≡ false) where
+  pub read_refused : (r : Refusal) → record_at list f 0 ≡ Err r → read_record list f ≡ Err r
   unfolding read_record single only_one
-  read_refused r e = rw (some, record_err f 0 e)
+  read_refused r e = rw (some, record_err list f 0 e)
 
-  module _ (x : Found) (e : record_at f 0 ≡ Ok x) where
-    pub read_whole : x.next ≡ length f → read_record f ≡ Ok x.site
+  module _ (x : Found) (e : record_at list f 0 ≡ Ok x) where
+    pub read_whole : x.next ≡ length f → read_record list f ≡ Ok x.site
     unfolding read_record single only_one
-    read_whole h = rw (some, record_ok f 0 e, eq-eqb _ _ h)
+    read_whole h = rw (some, record_ok list f 0 e, eq-eqb _ _ h)
 
-    pub read_more : (x.next ≡ length f → ⊥) → read_record f ≡ Err (record { rule = TooMany; at = x.next })
+    pub read_more : (x.next ≡ length f → ⊥) → read_record list f ≡ Err (record { rule = TooMany; at = x.next })
     unfolding read_record single only_one
-    read_more h = rw (some, record_ok f 0 e, ne_eqb _ _ h)
+    read_more h = rw (some, record_ok list f 0 e, ne_eqb _ _ h)

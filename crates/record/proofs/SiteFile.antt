@@ -2,7 +2,7 @@
 use Prim.Native.Nat.{ℕ, ◌*◌, ◌-◌, ◌≤◌, ◌<◌}
 use mathlib.Core.Path.{◌≡◌, sym, ap, ◌∙◌}
 use mathlib.Core.Logic.{◌⊎◌}
-use mathlib.Core.List.{List, map}
+use mathlib.Core.List.{List, [], map}
 use native.Mathlib.Omega.{arith}
 use lib.ListN.{length, get_or, take, drop}
 use Rattle.std.specs.Prelude.{Ok, Err, flat_map}
@@ -26,69 +26,69 @@ use Rattle.record.proofs.FieldBytes.{part_bytes}
 use Rattle.record.proofs.PairLaws.{PairRange, pair_range}
 use Rattle.record.proofs.Place.{site_take, site_fault_near, site_near, site_inside, site_after, site_passes, site_bytes, site_read}
 
-module _ (f : List ℕ) where
-  pub sites_none : length f ≤ 0 → contents f ≡ Err (record { rule = NoBytes; at = 0 })
+module _ (list f : List ℕ) where
+  pub sites_none : length f ≤ 0 → contents list f ≡ Err (record { rule = NoBytes; at = 0 })
   unfolding contents
-  sites_none h = contents_none (site_at f) (length f) most_records h
+  sites_none h = contents_none (site_at list f) (length f) most_records h
 
-  pub sites_some : 0 < length f → contents f ≡ walk_file (site_at f) (length f) most_records 0
+  pub sites_some : 0 < length f → contents list f ≡ walk_file (site_at list f) (length f) most_records 0
   unfolding contents
-  sites_some h = contents_some (site_at f) (length f) most_records h
+  sites_some h = contents_some (site_at list f) (length f) most_records h
 
   -- a fault is the first from the left
-  pub sites_first_fault : {r : Refusal} → contents f ≡ Err r → FileFault (site_at f) (length f) most_records r
+  pub sites_first_fault : {r : Refusal} → contents list f ≡ Err r → FileFault (site_at list f) (length f) most_records r
   unfolding contents
-  sites_first_fault {r} e = first_in_file (site_at f) (length f) r most_records e
+  sites_first_fault {r} e = first_in_file (site_at list f) (length f) r most_records e
 
   -- a single record is read as a file of at most one, with 4 for bytes after that one
-  pub single_is : contents_by 1 (site_at f) (length f) ≡ alone (read_record f)
+  pub single_is : contents_by 1 (site_at list f) (length f) ≡ alone (read_record list f)
   unfolding read_record
-  single_is = file_of_one (site_at f) (length f) (λ x r. site_inside f 0 r)
+  single_is = file_of_one (site_at list f) (length f) (λ x r. site_inside list f 0 r)
 
   -- so of a single record too the first fault is given
-  pub single-first_fault : {r : Refusal} → read_record f ≡ Err r → FileFault (site_at f) (length f) 1 r
+  pub single-first_fault : {r : Refusal} → read_record list f ≡ Err r → FileFault (site_at list f) (length f) 1 r
   unfolding alone
-  single-first_fault {r} e = first_in_file (site_at f) (length f) r 1 (single_is ∙ ap alone e)
+  single-first_fault {r} e = first_in_file (site_at list f) (length f) r 1 (single_is ∙ ap alone e)
 
   -- and within the record that starts at an offset
-  pub site_first_fault : (start : ℕ) {r : Refusal} → site_at f start ≡ Err r
-      → OuterBroken site_tag (drop start f) start r ⊎ InnerBroken site_tag (site_kinds (get_or (drop start f) 0 0)) (drop start f) start r
+  pub site_first_fault : (start : ℕ) {r : Refusal} → site_at list f start ≡ Err r
+      → OuterBroken site_tag (drop start f) start r ⊎ InnerBroken site_tag (site_kinds list (get_or (drop start f) 0 0)) (drop start f) start r
   unfolding site_at
-  site_first_fault start {r} e = first_in_record site_tag site_kinds (drop start f) start r e
+  site_first_fault start {r} e = first_in_record site_tag (site_kinds list) (drop start f) start r e
 
   -- a fault of a file lies at most 500 records of the greatest length from the start
-  pub sites_fault_near : {r : Refusal} → contents f ≡ Err r → r.at ≤ most_record * most_records
+  pub sites_fault_near : {r : Refusal} → contents list f ≡ Err r → r.at ≤ most_record * most_records
   unfolding contents
-  sites_fault_near e = file_fault_near (site_at f) most_record (λ at x r. site_near f at r) (λ at r e. site_fault_near f at e) (length f) most_records e
+  sites_fault_near e = file_fault_near (site_at list f) most_record (λ at x r. site_near list f at r) (λ at r e. site_fault_near list f at e) (length f) most_records e
 
   -- the sites of a file that passes: at most 500, and each passes the check
-  pub sites_checked : (ss : List Site) → contents f ≡ Ok ss → (length ss ≤ most_records) × All (λ s. site_rule s ≡ Ok tt) ss
+  pub sites_checked : (ss : List Site) → contents list f ≡ Ok ss → (length ss ≤ most_records) × All (λ s. site_rule list s ≡ Ok tt) ss
   unfolding contents
-  sites_checked ss e = contents_every (site_at f) (length f) (λ s. site_rule s ≡ Ok tt) (λ at x r. site_passes f at r) most_records ss e
+  sites_checked ss e = contents_every (site_at list f) (length f) (λ s. site_rule list s ≡ Ok tt) (λ at x r. site_passes list f at r) most_records ss e
 
   -- and S and N of each, where the file is bytes, are in their range
-  pub sites_pairs : AllBytes f → (ss : List Site) → contents f ≡ Ok ss → All PairRange ss
+  pub sites_pairs : AllBytes f → (ss : List Site) → contents list f ≡ Ok ss → All PairRange ss
   unfolding contents
   sites_pairs b ss e =
-      (contents_every (site_at f) (length f) PairRange (λ at x r. pair_range x.0 (rw (site_bytes f at r b) (part_bytes (x.1 - at) at f b))) most_records ss e).1
+      (contents_every (site_at list f) (length f) PairRange (λ at x r. pair_range x.0 (rw (site_bytes list f at r b) (part_bytes (x.1 - at) at f b))) most_records ss e).1
 
-  pub sites_more : (m : ℕ) → most_file ≤ m → contents (take m f) ≡ contents f
+  pub sites_more : (m : ℕ) → most_file ≤ m → contents list (take m f) ≡ contents list f
   unfolding contents
-  sites_more m h = contents_more site_at most_record site_take (λ g at x r. site_near g at r) most_records f m (omega arith)
+  sites_more m h = contents_more (site_at list) most_record (site_take list) (λ g at x r. site_near list g at r) most_records f m (omega arith)
 
   -- a file that passes is the records of its sites, one after another
-  pub sites_written : AllBytes f → (ss : List Site) → contents f ≡ Ok ss → f ≡ flat_map encode ss
+  pub sites_written : AllBytes f → (ss : List Site) → contents list f ≡ Ok ss → f ≡ flat_map encode ss
   unfolding contents
-  sites_written b ss e = contents_written (site_at f) encode f (λ at x r. (omega (arith, site_after f at r), site_bytes f at r b)) most_records ss e
+  sites_written b ss e = contents_written (site_at list f) encode f (λ at x r. (omega (arith, site_after list f at r), site_bytes list f at r b)) most_records ss e
 
 -- 1 to 500 sites that pass, encoded one after another, are read back, as `clean` has them
-pub sites_read : (ss : List Site) → All (λ s. Sized s × (site_rule s ≡ Ok tt)) ss → 1 ≤ length ss → length ss ≤ most_records
-    → contents (flat_map encode ss) ≡ Ok (map clean ss)
+pub sites_read : (list : List ℕ) (ss : List Site) → All (λ s. Sized s × (site_rule list s ≡ Ok tt)) ss → 1 ≤ length ss → length ss ≤ most_records
+    → contents list (flat_map encode ss) ≡ Ok (map clean ss)
 unfolding contents site_at
-sites_read ss ok h l =
-    contents_read site_at encode clean (λ s. Sized s × (site_rule s ≡ Ok tt)) (λ s. omega (arith, encode_length (site_kind s.kind) s))
-    (λ s p f at rest e. rw e (site_read s p.0 p.1 rest at)) most_records ss ok h l
+sites_read list ss ok h l =
+    contents_read (site_at list) encode clean (λ s. Sized s × (site_rule list s ≡ Ok tt)) (λ s. omega (arith, encode_length (site_kind [] s.kind) s))
+    (λ s p f at rest e. rw e (site_read list s p.0 p.1 rest at)) most_records ss ok h l
 
--- two different files never hold the same sites
-pub sites_injective : (f g : List ℕ) → AllBytes f → AllBytes g → (ss : List Site) → contents f ≡ Ok ss → contents g ≡ Ok ss → f ≡ g
-sites_injective f g b c ss p q = sites_written f b ss p ∙ sym (sites_written g c ss q)
+-- two different files never hold the same sites, with one list or with two
+pub sites_injective : (list more f g : List ℕ) → AllBytes f → AllBytes g → (ss : List Site) → contents list f ≡ Ok ss → contents more g ≡ Ok ss → f ≡ g
+sites_injective list more f g b c ss p q = sites_written list f b ss p ∙ sym (sites_written more g c ss q)

@@ -1,5 +1,5 @@
 -- Laws of the walk over the fields of a record, for every kind.
-use mathlib.Core.Path.{◌≡◌, refl, ap, ◌∙◌}
+use mathlib.Core.Path.{◌≡◌, refl, sym, ap, ◌∙◌}
 use mathlib.Core.Bool.{Bool, true, false}
 use mathlib.Core.List.{List, [], ◌∷◌, ◌++◌}
 use Prim.Native.Nat.{ℕ, ◌+◌, ◌-◌, ◌≤◌, ◌<◌}
@@ -18,7 +18,7 @@ use Rattle.site.specs.declared.Rule.TheVariants.{InnerCut, InnerTag}
 use Rattle.site.specs.Refusal.{Checked, unless}
 use Rattle.site.specs.Choice.{pick}
 use Rattle.field.specs.Field.{taken, blank_of, site_kind}
-use Rattle.field.proofs.TakenLaws.{taken_ok, same_rule}
+use Rattle.field.proofs.TakenLaws.{taken_ok}
 use Rattle.site.proofs.Passing.{pass_else, pass_then}
 use Rattle.record.specs.FieldParts.{stated_len, value_at, rest_at, field_of}
 use Rattle.field.specs.Kind.{Kind, field_rule}
@@ -123,39 +123,42 @@ module _ {A : Type 0} (K : Kind A) where
 
 -- ---- a step of the walk over a site of kind k, at the tag t of a loop that ends with `last`: the value as the code takes it
 
-module _ (k : RecordKind) (last : ℕ) (s : Site) (bs : List ℕ) (at : ℕ) where
+module _ (list : List ℕ) (k : RecordKind) (last : ℕ) (s : Site) (bs : List ℕ) (at : ℕ) where
   module _ (t : ℕ) (inside : t ≤ last) where
     abbrev ds : List ℕ
     ds = t ∷ tags_from last (t + 1)
 
-    pub tag_head : (r : Rule) → head_rule t bs ≡ Err r → walk_fields (site_kind k) (tags_from last t) s bs at ≡ Err (record { rule = r; at = at })
-    tag_head r e = rw (tags_more last t inside) (walk_head (site_kind k) ds 0 (omega arith) s bs at r e)
+    pub tag_head : (r : Rule) → head_rule t bs ≡ Err r → walk_fields (site_kind list k) (tags_from last t) s bs at ≡ Err (record { rule = r; at = at })
+    tag_head r e = rw (tags_more last t inside) (walk_head (site_kind list k) ds 0 (omega arith) s bs at r e)
 
-    module _ (ok : head_rule t bs ≡ Ok tt) (end : ℕ) (is_end : end ≡ 3 + stated_len bs) where
+    module _ (ok : head_rule t bs ≡ Ok tt) (end : ℕ) (is_end : end ≡ 3 + stated_len bs) (of : s.kind ≡ k) where
       abbrev v : List ℕ
       v = take (end - 3) (drop 3 bs)
 
       value_is : v ≡ value_at bs
       value_is = rw (is_end, add-sub_cancel_left)
 
-      pub tag_value : (r : Rule) → field_rule (site_kind s.kind) t v s ≡ Err r
-          → walk_fields (site_kind k) (tags_from last t) s bs at ≡ Err (record { rule = r; at = at })
-      tag_value r e = rw (tags_more last t inside) (walk_value (site_kind k) ds 0 (omega arith) s bs at ok r (rw value_is at (same_rule t v s k s.kind ∙ e)))
+      at_kind : (c : Checked) → field_rule (site_kind list s.kind) t v s ≡ c → field_rule (site_kind list k) t (value_at bs) s ≡ c
+      at_kind c e = rw value_is at (sym (ap (λ j. field_rule (site_kind list j) t v s) of) ∙ e)
 
-      pub tag_next : field_rule (site_kind s.kind) t v s ≡ Ok tt
-          → walk_fields (site_kind k) (tags_from last t) s bs at
-          ≡ walk_fields (site_kind k) (tags_from last (t + 1)) (taken t v s) (take (length bs - end) (drop end bs)) (at + end)
+      pub tag_value : (r : Rule) → field_rule (site_kind list s.kind) t v s ≡ Err r
+          → walk_fields (site_kind list k) (tags_from last t) s bs at ≡ Err (record { rule = r; at = at })
+      tag_value r e = rw (tags_more last t inside) (walk_value (site_kind list k) ds 0 (omega arith) s bs at ok r (at_kind (Err r) e))
+
+      pub tag_next : field_rule (site_kind list s.kind) t v s ≡ Ok tt
+          → walk_fields (site_kind list k) (tags_from last t) s bs at
+          ≡ walk_fields (site_kind list k) (tags_from last (t + 1)) (taken s.kind t v s) (take (length bs - end) (drop end bs)) (at + end)
       tag_next e =
-          let passed = rw value_is at (same_rule t v s k s.kind ∙ e) in
-          let is : taken t v s ≡ (site_kind k).store t (value_at bs) s = rw value_is (taken_ok t (value_at bs) s k passed) in
-          rw (tags_more last t inside) (walk_next (site_kind k) ds 0 (omega arith) s bs at ok passed (taken t v s) is end is_end)
+          let passed = at_kind (Ok tt) e in
+          let is : taken s.kind t v s ≡ (site_kind list k).store t (value_at bs) s = ap (λ j. taken j t v s) of ∙ rw value_is (taken_ok list t (value_at bs) s k passed) in
+          rw (tags_more last t inside) (walk_next (site_kind list k) ds 0 (omega arith) s bs at ok passed (taken s.kind t v s) is end is_end)
 
   -- the end: no tag is due
-  pub tag_none : (t : ℕ) → last < t → walk_fields (site_kind k) (tags_from last t) s bs at ≡ pick (eqb (length bs) 0) (Ok s) (Err (record { rule = InnerTag; at = at }))
+  pub tag_none : (t : ℕ) → last < t → walk_fields (site_kind list k) (tags_from last t) s bs at ≡ pick (eqb (length bs) 0) (Ok s) (Err (record { rule = InnerTag; at = at }))
   unfolding walk_fields
   tag_none t past = rw (tags_none last t past)
 
 -- all the fields of the kind
-pub tag_first : (k : RecordKind) (bs : List ℕ) (at : ℕ)
-    → fields_in (site_kind k) bs at ≡ walk_fields (site_kind k) (tags_from (length (due k)) 1) (blank_of k) bs at
-tag_first k bs at = ap (λ ts. walk_fields (site_kind k) ts (blank_of k) bs at) (due_tags k)
+pub tag_first : (list : List ℕ) (k : RecordKind) (bs : List ℕ) (at : ℕ)
+    → fields_in (site_kind list k) bs at ≡ walk_fields (site_kind list k) (tags_from (length (due k)) 1) (blank_of k) bs at
+tag_first list k bs at = ap (λ ts. walk_fields (site_kind list k) ts (blank_of k) bs at) (due_tags k)

@@ -1,6 +1,6 @@
 // The bytes of a site's value with a given tag.
-ghost use Rattle.std.specs.Prelude.{◌≡◌, ◌≤◌, length};
-ghost use Rattle.field.specs.Field.{value, entries_bytes};
+ghost use Rattle.std.specs.Prelude.{◌≡◌, ◌≤◌, ◌++◌, length};
+ghost use Rattle.field.specs.Field.{value, entry_bytes, entries_bytes};
 
 use arrayvec::ArrayVec;
 use site::{Entry, RecordKind, Site};
@@ -16,23 +16,31 @@ fn of(bytes: &[u8]) -> ArrayVec<u8, 20>
     held
 }
 
-#[tactic(auto, unfolding(field::specs::Field::entries_bytes))]
+// The bytes of an entry, after those that are held.
+#[tactic(auto, unfolding(field::specs::Field::entry_bytes))]
+fn hold_entry(held: &mut ArrayVec<u8, 20>, kind: RecordKind, e: Entry)
+    requires { length held.old.items ≤ 15 }
+    ensures { held.new.items ≡ held.old.items ++ entry_bytes kind e }
+{
+    let [high, low] = e.species.to_be_bytes();
+    let [hi, lo] = e.yield_kg.to_be_bytes();
+    // no error: by the contract there is room for five bytes
+    if kind.two_byte_species() {
+        held.try_extend_from_slice(&[high, low, e.share, hi, lo])
+            .unwrap();
+    } else {
+        held.try_extend_from_slice(&[low, e.share, hi, lo]).unwrap();
+    }
+}
+
+#[tactic(auto, using(crate::proofs::ValueBytesLaws::entries_more, crate::proofs::ValueBytesLaws::entries_room), unfolding(field::specs::Field::entries_bytes))]
 fn of_entries(kind: RecordKind, entries: &[Entry]) -> ArrayVec<u8, 20>
     requires { length entries.now ≤ 4 }
     ensures { result.items ≡ entries_bytes kind entries.now }
 {
     let mut held = ArrayVec::new();
     for e in entries {
-        let [high, species] = e.species.to_be_bytes();
-        let [hi, lo] = e.yield_kg.to_be_bytes();
-        // no error: by the contract there are at most four entries, with at most five bytes each
-        if kind.two_byte_species() {
-            held.try_extend_from_slice(&[high, species, e.share, hi, lo])
-                .unwrap();
-        } else {
-            held.try_extend_from_slice(&[species, e.share, hi, lo])
-                .unwrap();
-        }
+        hold_entry(&mut held, kind, *e);
     }
     held
 }

@@ -21,11 +21,7 @@ fn added_length(kind: RecordKind) -> usize
 }
 
 // The record of the site at the front of the buffer; a refusal leaves the buffer as it is.
-pub fn write_record(
-    site: Site,
-    list: SpeciesList<'_>,
-    buf: &mut [u8],
-) -> Result<usize, Refusal>
+pub fn write_record(site: Site, list: SpeciesList<'_>, buf: &mut [u8]) -> Result<usize, Refusal>
     ensures answer { result ≡ write_answer (write_rule list.entry.bytes.now site (length buf.old)) (length (encode site)) }
     ensures buffer { buf.new ≡ held_after (write_rule list.entry.bytes.now site (length buf.old)) (encode site) buf.old }
     ensures numbers { written_numbers result ≡ output_numbers (write_rule list.entry.bytes.now site (length buf.old)) (length (encode site)) }

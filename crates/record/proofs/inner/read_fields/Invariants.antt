@@ -10,5 +10,6 @@ use Rattle.record.proofs.inner.read_fields.Given as goal
 abbrev pub invariant-loop-tag : goal.invariant-loop-tag
 invariant-loop-tag l = record {
   ends : l.at + length l.rest ≡ l.base + length l.part;
-  goes_on : fields_in (site_kind l.fn.kind) l.part l.base ≡ walk_fields (site_kind l.fn.kind) (tags_from (length (due l.fn.kind)) l.tag) l.site l.rest l.at;
+  kind : l.site.kind ≡ l.fn.kind;
+  goes_on : fields_in (site_kind l.fn.list.bytes.now l.fn.kind) l.part l.base ≡ walk_fields (site_kind l.fn.list.bytes.now l.fn.kind) (tags_from (length (due l.fn.kind)) l.tag) l.site l.rest l.at;
 }

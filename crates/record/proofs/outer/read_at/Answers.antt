@@ -15,7 +15,7 @@ returns-in_err-kind c =
     let bs = c.bytes_from-rest.result.now in
     let broken : and_then (outer_rule site_tag bs) (kind_by (get_or bs 0 0)) ≡ Err r.rule = search rules in
     let said : c.from_residual.result ≡ Err (record { rule = r.rule; at = c.args.at }) = search rules in
-    found_answers _ _ _ (λ i. omega (arith, c.type_inv.file i)) (rw said (record_broken _ _ _ c.bytes_from-rest.ensures.bytes _ broken))
+    found_answers _ _ _ _ (λ i. omega (arith, c.type_inv.file i)) (rw said (record_broken _ _ _ _ c.bytes_from-rest.ensures.bytes _ broken))
 
 pub returns-in_err-site : goal.returns-in_err-site
 returns-in_err-site c =
@@ -23,13 +23,13 @@ returns-in_err-site c =
     let bs = c.bytes_from-rest.result.now in
     let k = c.in_ok-kind.kind in
     let read : and_then (outer_rule site_tag bs) (kind_by (get_or bs 0 0)) ≡ Ok k = search rules in
-    let e = record_refused _ _ _ c.bytes_from-rest.ensures.bytes k read _ (omega arith) _ (sym c.in_err-site.ensures) in
-    found_answers _ _ _ (λ i. omega (arith, c.type_inv.file i)) (rw (p.1, p.2) e)
+    let e = record_refused _ _ _ _ c.bytes_from-rest.ensures.bytes k read _ (omega arith) _ (sym c.in_err-site.ensures) in
+    found_answers _ _ _ _ (λ i. omega (arith, c.type_inv.file i)) (rw (p.1, p.2) e)
 
 pub returns : goal.returns
 returns c =
     let bs = c.bytes_from-rest.result.now in
     let k = c.in_ok-kind.kind in
     let read : and_then (outer_rule site_tag bs) (kind_by (get_or bs 0 0)) ≡ Ok k = search rules in
-    found_answers _ _ _ (λ i. omega (arith, c.type_inv.file i))
-    (record_whole _ _ _ c.bytes_from-rest.ensures.bytes k read _ (omega arith) _ (sym c.in_ok-site.ensures))
+    found_answers _ _ _ _ (λ i. omega (arith, c.type_inv.file i))
+    (record_whole _ _ _ _ c.bytes_from-rest.ensures.bytes k read _ (omega arith) _ (sym c.in_ok-site.ensures))

@@ -1,4 +1,4 @@
-use Rattle.std.proofs.Common.{length, arith}
+use Rattle.std.proofs.Common.{[], length, arith}
 use Rattle.site.specs.Kinds.{due}
 use Rattle.field.specs.Field.{site_kind}
 use Rattle.record.specs.Fields.{encode_fields}
@@ -13,13 +13,13 @@ loop-tag-init c = record { room = rw (← fields_first c.args.site) c.requires; 
 
 pub put_field-end-requires : goal.put_field-end-requires
 put_field-end-requires c =
-    omega (arith, c.loop-tag.invariant.room, fields_long (site_kind c.args.site.kind) c.args.site (length (due c.args.site.kind)) c.loop-tag.tag (omega arith))
+    omega (arith, c.loop-tag.invariant.room, fields_long (site_kind [] c.args.site.kind) c.args.site (length (due c.args.site.kind)) c.loop-tag.tag (omega arith))
 
 pub loop-tag-preserved : goal.loop-tag-preserved
 loop-tag-preserved c =
     record {
-      room = omega (arith, c.loop-tag.invariant.room, fields_long (site_kind c.args.site.kind) c.args.site (length (due c.args.site.kind)) c.loop-tag.tag (omega arith), kept c.put_field-end.ensures, c.put_field-end.ensures.next);
-      all = λ b r w. c.loop-tag.invariant.all b r (fields_more (site_kind c.args.site.kind) c.args.site (length (due c.args.site.kind)) c.loop-tag.tag (omega arith) c.put_field-end.ensures w);
+      room = omega (arith, c.loop-tag.invariant.room, fields_long (site_kind [] c.args.site.kind) c.args.site (length (due c.args.site.kind)) c.loop-tag.tag (omega arith), kept c.put_field-end.ensures, c.put_field-end.ensures.next);
+      all = λ b r w. c.loop-tag.invariant.all b r (fields_more (site_kind [] c.args.site.kind) c.args.site (length (due c.args.site.kind)) c.loop-tag.tag (omega arith) c.put_field-end.ensures w);
     }
 
 pub returns : goal.returns
