@@ -19,10 +19,9 @@ use Rattle.site.specs.Ranges.{most_species, listed_range, share_range, most_yiel
 use Rattle.site.specs.Values.{inside, species_ranged, entry_ranged}
 use Rattle.site.proofs.EntryPast.{entry_past}
 use Rattle.site.proofs.Tests.{and_l, and_r}
-use Rattle.numbers.specs.TwoBytes.{word_of, word_at, word_bytes}
+use Rattle.numbers.specs.TwoBytes.{word_of, word_at, word_bytes, AllBytes}
 use Rattle.site.specs.Bytes.{tabulate, narrow_entry, wide_entry, entry_at}
 use Rattle.field.specs.Field.{entry_bytes, entries_bytes}
-use Rattle.field.specs.Clean.{AllBytes}
 use Rattle.field.proofs.TabulateLaws.{tabulate_cong, tabulate_front}
 
 pub word_back : (y : ℕ) → word_of (y / 256) (y % 256) ≡ y

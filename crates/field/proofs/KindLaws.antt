@@ -8,9 +8,8 @@ use Rattle.site.specs.declared.Rule.TheVariants.{BadLength}
 use Rattle.site.proofs.Passing.{pass_then}
 use Rattle.site.specs.Refusal.{Checked}
 use Rattle.std.specs.Prelude.{Ok}
-use Rattle.numbers.specs.TwoBytes.{word_at, word_bytes}
+use Rattle.numbers.specs.TwoBytes.{word_at, word_bytes, AllBytes}
 use Rattle.site.specs.Bytes.{tabulate}
-use Rattle.field.specs.Clean.{AllBytes}
 use Rattle.field.specs.Kind.{Kind, field_rule}
 use Rattle.field.proofs.TabulateLaws.{tabulate-get_or}
 use Rattle.field.proofs.EntryLaws.{word_back, word_hi, word_lo}

@@ -21,7 +21,8 @@ use Rattle.site.specs.declared.RecordKind.TheVariants.{Tag52, Tag53, Tag54}
 use Rattle.site.specs.Kinds.{due, entry_width}
 use Rattle.site.specs.Values.{items_of, length_permitted, item_count, count_rule, value_rule, ranged, between}
 use Rattle.site.proofs.LengthLaws.{permitted_parts, parts_permitted, parts_counted, one_item}
-use Rattle.field.specs.Clean.{Sized, AllBytes}
+use Rattle.numbers.specs.TwoBytes.{AllBytes}
+use Rattle.field.specs.Clean.{Sized}
 use Rattle.field.proofs.All.{All, none, ◌▸◌}
 use Rattle.field.proofs.TabulateLaws.{take-tabulate, tabulate-clean}
 use Rattle.site.proofs.EntryPast.{entry_past}

@@ -1,5 +1,5 @@
 -- What reading and writing keep of a site.
-use Rattle.std.specs.Prelude.{◌≡◌, ℕ, ◌<◌, List, ◌++◌, get_or, take, length, replicate}
+use Rattle.std.specs.Prelude.{◌≡◌, List, ◌++◌, take, length, replicate}
 use Rattle.site.specs.declared.Site.{Site}
 use Rattle.site.specs.Kinds.{counted_temperature}
 use Rattle.site.specs.Bounds.{no_entry}
@@ -28,7 +28,3 @@ pub record SameSite (s t : Site) : Type 0 where
 pub record Sized (s : Site) : Type 0 where
   pub name : length s.name.bytes ≡ 8
   pub stand : length s.stand.entries ≡ 4
-
--- every element is a byte: so it is in every slice of bytes
-abbrev pub AllBytes : List ℕ → Type 0
-AllBytes bs = (i : ℕ) → get_or bs i 0 < 256

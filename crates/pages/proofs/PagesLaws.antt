@@ -14,7 +14,7 @@ use Rattle.std.proofs.lemmas.Bool.{cases_lt}
 use Rattle.std.proofs.lemmas.List.{map-id}
 use Rattle.judgement.proofs.AtSites.{word_tells}
 use Rattle.field.specs.Field.{blank_site}
-use Rattle.field.specs.Clean.{AllBytes}
+use Rattle.numbers.specs.TwoBytes.{AllBytes}
 use Rattle.field.proofs.All.{all_at}
 use Rattle.std.specs.Prelude.{Ok}
 use Rattle.record.specs.File.{contents}

@@ -11,7 +11,7 @@ use lib.Seq.{drop-cons, take_at, drop_at, drop-drop, get_or-drop, get_or-take}
 use borrow.Author.Tests.{eq-eqb}
 use Rattle.site.proofs.Tests.{le_or_lt}
 use Rattle.record.specs.FieldParts.{field_of, stated_len, value_at, rest_at}
-use Rattle.field.specs.Clean.{AllBytes}
+use Rattle.numbers.specs.TwoBytes.{AllBytes}
 use Rattle.field.proofs.EntryLaws.{word_back}
 
 -- a field

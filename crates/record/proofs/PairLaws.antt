@@ -12,7 +12,7 @@ use Rattle.site.proofs.Tags.{first_fifteen}
 use mathlib.Core.Path.{◌≡◌, refl}
 use Rattle.field.specs.Kind.{Kind}
 use Rattle.field.specs.Field.{site_kind, value}
-use Rattle.field.specs.Clean.{AllBytes}
+use Rattle.numbers.specs.TwoBytes.{AllBytes}
 use Rattle.record.specs.FieldParts.{field_of}
 use Rattle.record.specs.Fields.{encode_fields, encode_as}
 use Rattle.record.specs.Writer.{encode}

@@ -19,7 +19,8 @@ use Rattle.field.specs.Field.{site_kind}
 use Rattle.record.specs.Fields.{encode_as}
 use Rattle.record.specs.Records.{most_record, record_in}
 use Rattle.record.specs.Outer.{site_tag, site_kinds, site_at, found_of, record_at}
-use Rattle.field.specs.Clean.{clean, Sized, AllBytes}
+use Rattle.numbers.specs.TwoBytes.{AllBytes}
+use Rattle.field.specs.Clean.{clean, Sized}
 use Rattle.record.specs.Writer.{encode, WritesAgain}
 use Rattle.record.proofs.EncodeLaws.{fields_same, encode_same, fields_small}
 use Rattle.record.proofs.OuterLaws.{site_past}

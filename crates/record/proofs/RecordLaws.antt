@@ -21,7 +21,7 @@ use Rattle.record.specs.FieldParts.{field_of, stated_len, value_at}
 use Rattle.field.specs.Kind.{Kind}
 use Rattle.record.specs.Fields.{fields_in, encode_fields, encode_as}
 use Rattle.record.specs.Records.{most_record, outer_rule, ending, record_in, only_one, single}
-use Rattle.field.specs.Clean.{AllBytes}
+use Rattle.numbers.specs.TwoBytes.{AllBytes}
 use Rattle.record.proofs.FieldBytes.{stated, field_length, field_first, field_value, value_bytes, field_front, length_whole}
 use Rattle.site.proofs.ByCheckLaws.{unless_ok}
 use Rattle.record.proofs.ResultLaws.{ending_ok}

@@ -14,7 +14,8 @@ use Rattle.site.specs.declared.Refusal.{Refusal}
 use Rattle.site.specs.declared.Rule.TheVariants.{NoBytes, TooMany}
 use Rattle.site.specs.Check.{site_rule}
 use Rattle.field.specs.Field.{site_kind}
-use Rattle.field.specs.Clean.{clean, Sized, AllBytes}
+use Rattle.numbers.specs.TwoBytes.{AllBytes}
+use Rattle.field.specs.Clean.{clean, Sized}
 use Rattle.record.specs.Result.{result_numbers}
 use Rattle.record.specs.declared.Found.{Found}
 use Rattle.record.specs.Records.{most_record, record_in, only_one, single}

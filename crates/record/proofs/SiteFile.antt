@@ -16,7 +16,8 @@ use Rattle.record.specs.Outer.{site_tag, site_kinds, site_at, read_record}
 use Rattle.record.specs.Records.{most_record}
 use Rattle.record.specs.FirstFault.{OuterBroken, InnerBroken, FileFault}
 use Rattle.record.specs.File.{walk_file, contents_by, alone, contents, most_file}
-use Rattle.field.specs.Clean.{clean, Sized, AllBytes}
+use Rattle.numbers.specs.TwoBytes.{AllBytes}
+use Rattle.field.specs.Clean.{clean, Sized}
 use Rattle.record.specs.Writer.{encode}
 use Rattle.field.proofs.All.{All}
 use Rattle.record.proofs.EncodeLaws.{encode_length}

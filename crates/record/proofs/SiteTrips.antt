@@ -21,7 +21,8 @@ use Rattle.site.specs.Kinds.{due, entry_width, reference_temperature, counted_te
 use Rattle.site.specs.Values.{count_rule, value_rule}
 use Rattle.site.proofs.Passing.{both_passed}
 use Rattle.record.specs.Fields.{fields_in, encode_fields}
-use Rattle.field.specs.Clean.{clean, Sized, AllBytes}
+use Rattle.numbers.specs.TwoBytes.{AllBytes}
+use Rattle.field.specs.Clean.{clean, Sized}
 use Rattle.field.proofs.All.{All, none, ◌▸◌, all_of, all_by, map-all, zip_all, all_at}
 use Rattle.field.proofs.TabulateLaws.{tabulate_pad}
 use Rattle.field.proofs.EntryLaws.{word_back, entries_span, stand_back}

@@ -11,7 +11,7 @@ use Rattle.site.proofs.Tests.{and_l, and_r}
 use Rattle.site.specs.Refusal.{unless}
 use Rattle.record.specs.FieldParts.{value_at, rest_at}
 use Rattle.record.specs.Fields.{walk_fields, encode_fields}
-use Rattle.field.specs.Clean.{AllBytes}
+use Rattle.numbers.specs.TwoBytes.{AllBytes}
 use Rattle.field.specs.Kind.{Kind, field_rule}
 use Rattle.field.proofs.KindLaws.{Made, Kept}
 use Rattle.field.proofs.All.{All, none, ◌▸◌}

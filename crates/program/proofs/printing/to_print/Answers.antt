@@ -1,5 +1,5 @@
 -- What is printed is what the buffer has for output, and that is the file's report.
-use Rattle.std.proofs.Common.{arith, rules}
+use Rattle.std.proofs.Common.{arith, rules, []}
 use Rattle.std.proofs.lemmas.Grind.{common_steps}
 use Rattle.listing.proofs.ReportLaws.{report_says}
 use Rattle.program.specs.Printing.{output_of}
