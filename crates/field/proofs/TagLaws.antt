@@ -108,9 +108,9 @@ module _ (list : List ℕ) (k : RecordKind) where
   Again t = (s : Site) → Sized s → count_rule t s ≡ Ok tt → value_rule list k t s ≡ Ok tt → (x : Site) → field_rule K t (value k t s) x ≡ Ok tt
 
   pub record TagLaws (t : ℕ) : Type 0 where
-    pub kept : Kept (site_kind list k) t
-    pub read : Made (site_kind list k) (AsRead list k t) t
-    pub again : (s : Site) → Sized s → count_rule t s ≡ Ok tt → value_rule list k t s ≡ Ok tt → (x : Site) → field_rule (site_kind list k) t (value k t s) x ≡ Ok tt
+    pub kept : Kept K t
+    pub read : Made K (AsRead list k t) t
+    pub again : Again t
 
   -- a field of one item, of which rule 7 holds in every site
   one_tag : (t : ℕ) → OneItem K t → ((s : Site) → Counted t s) → TagLaws t
