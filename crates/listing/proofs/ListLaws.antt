@@ -35,7 +35,7 @@ pub record Filled (list : List ℕ) (rows : List Row) (c : Contents Site) : Type
 
 pub found_sites : (list : List ℕ) (c : Contents Site) {rows : List Row} → walked_of list c ≡ Ok rows → Filled list rows c
 unfolding walked_of
-found_sites list (Ok ss) {rows} e = let same : map row_of ss ≡ rows = cc in record { ss = ss; holds = refl; lines = sym same }
+found_sites list (Ok ss) {rows} e = let same : map (row_of list) ss ≡ rows = cc in record { ss = ss; holds = refl; lines = sym same }
 found_sites list (Err r) e = cc
 
 pub found_fault : (list : List ℕ) (c : Contents Site) {r : Refusal} → walked_of list c ≡ Err r → c ≡ Err r
@@ -107,7 +107,7 @@ Reported list f d e r = Clauses (report_of list f) d e r (RoomEnough (report_of 
 reported : (list f d : List ℕ) {e : List ℕ} {r : Written} → Answered (report_of list f) d e r → WrittenDemand3 list f e r → Reported list f d e r
 reported list f d a w = clauses_then a w
 
-pub reported_sites : (list f d : List ℕ) {e : List ℕ} {r : Written} (ss : List Site) → contents list f ≡ Ok ss → Answered (listing (map row_of ss)) d e r → Reported list f d e r
+pub reported_sites : (list f d : List ℕ) {e : List ℕ} {r : Written} (ss : List Site) → contents list f ≡ Ok ss → Answered (listing (map (row_of list) ss)) d e r → Reported list f d e r
 unfolding report_of printed
 reported_sites list f d ss h a = reported list f d (rw h a) (says_so most_text (listing_of list) LinesSay list f d ss h a (listing_says list f ss h))
 
