@@ -160,7 +160,11 @@ static void overseas_calls(const uint64_t *judged) {
     site_54[16] = 1, site_54[51] = 0;
     expect_numbers("loads of species 1", forest_loads(site_54, SITE_54, LENT, numbers, 4), 4, of_spruce, 4);
     expect_numbers("species 1, an empty list", forest_loads(site_54, SITE_54, NONE, numbers, 4), 4, of_spruce, 4);
-    site_54[16] = 9;
+    /* Nu is 1310, and the demand 3933 beside 380 for Bu: A 30, h 372, M 74 + 30. */
+    static const uint64_t of_the_greatest[4] = {149, 1360, 1525, 1404};
+    site_54[16] = 0xFF, site_54[51] = 3;
+    expect_numbers("loads of species 1023", forest_loads(site_54, SITE_54, LENT, numbers, 4), 4, of_the_greatest, 4);
+    site_54[16] = 9, site_54[51] = 0;
     expect("species 9", forest_check(site_54, SITE_54, LENT) == refusal(8, 0));
     site_54[16] = 0, site_54[51] = 4;
     expect("species 1024", forest_check(site_54, SITE_54, LENT) == refusal(8, 0));
