@@ -40,17 +40,34 @@ const FAULTS: [&str; 24] = [
     "15: a rest after 768",
 ];
 
+/// A broken entry, by its bytes.
+const RESTS: [&str; 9] = [
+    "15: rest of 1",
+    "15: rest of 2",
+    "15: rest of 3",
+    "15: rest of 4",
+    "15: rest of 5",
+    "15: rest of 6",
+    "15: rest of 7",
+    "15: rest of 8",
+    "15: rest of 9",
+];
+
 #[derive(Default)]
 pub struct Lists {
     /// By what is lent with the list, as the faults.
     accepted: [[u64; 4]; LENGTHS.len()],
     faults: [[u64; 4]; FAULTS.len()],
+    rests: [[u64; 4]; RESTS.len()],
 }
 
 impl Lists {
     /// A list, with the column of what it was lent with and whether that was accepted.
     pub fn count(&mut self, column: usize, list: &[u8], accepted: bool) {
         if let Err(Refusal { offset, .. }) = forest::check_list(list) {
+            if let rest @ 1..ENTRY = list.len() - offset {
+                self.rests[rest - 1][column] += 1;
+            }
             for name in list_faults(list, offset) {
                 let row = FAULTS.iter().position(|&fault| fault == name);
                 self.faults[row.expect("a row")][column] += 1;
@@ -68,9 +85,12 @@ impl Lists {
     }
 
     pub fn rows(&self) -> Vec<(String, [u64; 4])> {
-        let names = LENGTHS.iter().chain(&FAULTS).map(|name| name.to_string());
-        let counts = self.accepted.iter().chain(&self.faults).copied();
-        names.zip(counts).collect()
+        let names = LENGTHS.iter().chain(&FAULTS).chain(&RESTS);
+        let counts = self.accepted.iter().chain(&self.faults).chain(&self.rests);
+        names
+            .map(|name| name.to_string())
+            .zip(counts.copied())
+            .collect()
     }
 }
 
