@@ -56,7 +56,8 @@ impl<'a> SpeciesList<'a> {
         u16::from_be_bytes([self.bytes[at], self.bytes[at + 1]])
     }
 
-    // The entry with a number, or how many entries there are where none has it. The numbers rise, so each turn halves what is left.
+    // The entry with a number, or how many entries there are where none has it. The numbers rise, so each turn halves what is left: `size` entries from `low`
+    // on. Both ways take a turn the same lengths, so that no branch has to be foreseen.
     #[tactic(auto, using(crate::proofs::SearchLaws::starts))]
     pub fn place_of(self, number: u16) -> usize
         ensures place { result ≡ place_of self.entry.bytes.now number }
@@ -64,15 +65,14 @@ impl<'a> SpeciesList<'a> {
     {
         let n = self.bytes.len() / 10;
         let mut low = 0;
-        let mut high = n;
+        let mut size = n;
         // a `for` has nothing to run over
-        while low < high {
-            let middle = low + (high - low) / 2;
-            if self.number_at(middle) < number {
-                low = middle + 1;
-            } else {
-                high = middle;
+        while size > 1 {
+            let half = size / 2;
+            if self.number_at(low + half) <= number {
+                low += half;
             }
+            size -= half;
         }
         if low < n && self.number_at(low) == number {
             low
