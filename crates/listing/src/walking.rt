@@ -29,6 +29,8 @@ fn row_by(site: Site, judged: Judged) -> Row
     }
 }
 
+// Kept a function of its own: written into the loop it has the rows laid out once more on the stack.
+#[inline(never)]
 fn row_at(file: &[u8], at: usize, list: SpeciesList<'_>) -> Result<Step, Refusal>
     ensures { result ≡ step_of list.entry.bytes.now (site_at list.entry.bytes.now file.now at) }
 {

@@ -28,7 +28,7 @@ field_passed list k last i t (suc n) d h l s e =
     let p = both_passed _ _ (rw (tags_more last i (omega arith)) at e) in
     field_passed list k last (i + 1) t n (omega arith) (omega arith) l s p.1
 
--- a site that passes, passes rules 7 to 10 in every field of its kind
+-- a site that passes, passes rules 7 to 10 and 16 in every field of its kind
 pub due_passed : (list : List ℕ) (s : Site) → site_rule list s ≡ Ok tt → (t : ℕ) → 1 ≤ t → t ≤ length (due s.kind)
     → (count_rule t s ≡ Ok tt) × (value_rule list s.kind t s ≡ Ok tt)
 unfolding site_rule

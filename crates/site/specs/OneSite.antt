@@ -1,5 +1,5 @@
 -- Two pairs are at one site when all the site values that go with them, but name and pair, are equal. The kind of the record is none of these values: the
--- temperature is the one that counts.
+-- temperature is the one that counts. Nor is the list of species: what speaks of two sites takes one list for both.
 use Rattle.std.specs.Prelude.{◌≡◌, take}
 use Rattle.site.specs.declared.Site.{Site}
 use Rattle.site.specs.Kinds.{counted_temperature}

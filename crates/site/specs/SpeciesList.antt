@@ -1,6 +1,6 @@
 -- A list of species (document 02, E6): entries of ten bytes, each a number and then the contents Ca, Mg, K, N, two bytes each; rule 15, and where a number
 -- stands.
-use Rattle.std.specs.Prelude.{ℕ, zero, suc, ◌+◌, ◌*◌, ◌/◌, Bool, not, ◌&&◌, List, leb, ltb, eqb, length, Ok, Err}
+use Rattle.std.specs.Prelude.{ℕ, zero, suc, ◌+◌, ◌*◌, ◌/◌, ◌≤◌, ◌<◌, ◌≡◌, ◌⊎◌, Bool, not, ◌&&◌, List, leb, ltb, eqb, length, Ok, Err}
 use Rattle.numbers.specs.TwoBytes.{word_at}
 use Rattle.site.specs.Choice.{pick}
 use Rattle.site.specs.Ranges.{listed_range}
@@ -19,6 +19,7 @@ unfoldable pub least_at : List ℕ → ℕ → ℕ
 least_at l zero = listed_range.least
 least_at l (suc i) = number_at l i + 1
 
+-- an entry is good, where those before it are: its number is above the one before, from 256 on, and at most 1023
 unfoldable pub good_entry : List ℕ → ℕ → Bool
 good_entry l i = leb (least_at l i) (number_at l i) && leb (number_at l i) listed_range.most
 
@@ -44,3 +45,28 @@ place_of l number = first_failing (λ i. not (eqb (number_at l i) number)) (entr
 
 unfoldable pub lists : List ℕ → ℕ → Bool
 lists l number = ltb (place_of l number) (entry_count l)
+
+-- ---- rule 15 as conditions, in document 02's words
+
+-- the numbers of the first n entries lie in 256 to 1023 and rise strictly
+pub record Rises (l : List ℕ) (n : ℕ) : Type 0 where
+  pub inside : (i : ℕ) → i < n → (listed_range.least ≤ number_at l i) × (number_at l i ≤ listed_range.most)
+  pub rises : (i j : ℕ) → i < j → j < n → number_at l i < number_at l j
+
+-- a good list: whole entries, all of whose numbers do
+pub record GoodList (l : List ℕ) : Type 0 where
+  pub whole : length l ≡ 10 * entry_count l
+  pub numbers : Rises l (entry_count l)
+
+-- what can be wrong with entry i: 1 to 9 bytes are all that is left of it, its number is not above the one before, or outside 256 to 1023
+pub data BadEntry (l : List ℕ) (i : ℕ) : Type 0 where
+  broken : 10 * i < length l → length l < 10 * i + 10 → BadEntry l i
+  outside : 10 * i + 10 ≤ length l → (number_at l i < listed_range.least) ⊎ (listed_range.most < number_at l i) → BadEntry l i
+  not_rising : 10 * i + 10 ≤ length l → (j : ℕ) → i ≡ suc j → number_at l i ≤ number_at l j → BadEntry l i
+
+-- the first bad entry of a list, at an offset: those before it are good
+pub record FirstBad (l : List ℕ) (at : ℕ) : Type 0 where
+  pub entry : ℕ
+  pub offset : at ≡ 10 * entry
+  pub before : Rises l entry
+  pub here : BadEntry l entry
