@@ -127,8 +127,8 @@ module _ (list f : List ℕ) (listed : AllBytes list) (bytes : AllBytes f) (ss :
   }
 
 -- less deposition is never worse, on all pages of which the above holds
-pub pages_stay : (f x g y : List ℕ) → TextSays PagesSay list f x → TextSays PagesSay g y → PagesNeverWorse f x g y
-pages_stay f x g y df dg = marks_stay (λ (k : ℕ) (t : List ℕ). verdict_column (site_line k t)) list f x g y (λ ss h. (df ss h).says) (λ ss h. (dg ss h).says)
+pub pages_stay : (list f x g y : List ℕ) → TextSays PagesSay list f x → TextSays PagesSay list g y → PagesNeverWorse list f x g y
+pages_stay list f x g y df dg = marks_stay (λ (k : ℕ) (t : List ℕ). verdict_column (site_line k t)) list f x g y (λ ss h. (df ss h).says) (λ ss h. (dg ss h).says)
 
 -- ---- the clauses of the call
 

@@ -1,5 +1,5 @@
 // What is printed.
-ghost use Rattle.std.specs.Prelude.{◌≡◌, List, ◌++◌, ℕ, ◌≤◌, length, take, drop};
+ghost use Rattle.std.specs.Prelude.{◌≡◌, List, [], ◌++◌, ℕ, ◌≤◌, length, take, drop};
 ghost use Rattle.listing.specs.Reports.{report_of};
 ghost use Rattle.listing.specs.PrintedDemand3.{Demand3};
 ghost use Rattle.program.specs.declared.ReadState.TheVariants.{Failed};
@@ -9,6 +9,7 @@ ghost use Rattle.output.specs.Output.{held};
 
 use crate::ReadState;
 use listing::report;
+use site::SpeciesList;
 
 // The report of a file, with the number of bytes to print: none where the buffer is too short.
 #[tactic(auto, unfolding(site::specs::Refusal::unless, output::specs::Output::held_after, output::specs::Output::output_count))]

@@ -1,5 +1,5 @@
 // The program as a whole: it reads, and writes what is to be printed.
-ghost use Rattle.std.specs.Prelude.{◌≡◌, ◌≢◌, IfOk, IfSome};
+ghost use Rattle.std.specs.Prelude.{[], ◌≡◌, ◌≢◌, IfOk, IfSome};
 ghost use Rattle.std.specs.Io.KnownBytes.{Keeps, Appends};
 ghost use Rattle.listing.specs.Reports.{report_of};
 ghost use Rattle.program.specs.declared.ReadState.TheVariants.{Failed};

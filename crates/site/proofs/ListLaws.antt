@@ -12,7 +12,7 @@ use Rattle.std.specs.Prelude.{Ok, Err}
 use Rattle.site.specs.declared.Rule.TheVariants.{BadList}
 use Rattle.site.specs.Choice.{pick}
 use Rattle.site.specs.SpeciesList.{entry_count, number_at, least_at, good_entry, first_failing, first_bad, list_rule, list_fault}
-use Rattle.site.proofs.Tests.{le_or_lt, and_l}
+use Rattle.site.proofs.Tests.{le_or_lt, and_l, and_r}
 use Rattle.site.proofs.Passing.{pass_then}
 
 -- ---- the first number that fails a test
@@ -47,6 +47,18 @@ first_failing_le test (suc n) = by_test (test 0) (first_failing_le (λ k. test (
     by_test : (b : Bool) → first_failing (λ k. test (suc k)) n ≤ n → pick b (suc (first_failing (λ k. test (suc k)) n)) 0 ≤ suc n
     by_test true h = omega arith
     by_test false h = omega arith
+
+-- all before it pass
+pub first_failing_before : (test : ℕ → Bool) (n j : ℕ) → j < first_failing test n → test j ≡ true
+unfolding first_failing
+first_failing_before test zero j l = absurd (omega arith)
+first_failing_before test (suc n) j l = by_test (test 0) refl j l (λ i k. first_failing_before (λ k. test (suc k)) n i k)
+  where
+    by_test : (b : Bool) → test 0 ≡ b → (j : ℕ) → j < pick b (suc (first_failing (λ k. test (suc k)) n)) 0
+        → ((i : ℕ) → i < first_failing (λ k. test (suc k)) n → test (suc i) ≡ true) → test j ≡ true
+    by_test true is zero l more = is
+    by_test true is (suc j) l more = more j (omega arith)
+    by_test false is j l more = absurd (omega arith)
 
 -- ---- the check
 
@@ -128,3 +140,28 @@ module _ (l : List ℕ) (ok : list_rule l ≡ Ok tt) where
       (λ (q : suc i ≤ j). let z = rising i j q (omega arith) in omega (arith, next_above j k))
       (λ (q : j < suc i). let e : i ≡ j = omega arith in rw e (next_above j k))
       (le_or_lt (suc i) j)
+
+-- ---- where a list is refused
+
+module _ (l : List ℕ) where
+  good_from : (j : ℕ) → good_entry l j ≡ true → (least_at l j ≤ number_at l j) × (number_at l j ≤ 1023)
+  unfolding good_entry
+  good_from j g = (leb-true (least_at l j) (number_at l j) (and_l _ _ g), leb-true (number_at l j) 1023 (and_r (leb (least_at l j) (number_at l j)) _ g))
+
+  -- the numbers of good entries rise from 256
+  good_number : (j : ℕ) → ((i : ℕ) → i ≤ j → good_entry l i ≡ true) → 256 + j ≤ number_at l j
+  unfolding least_at
+  good_number zero g = omega (arith, (good_from 0 (g 0 (omega arith))).0)
+  good_number (suc j) g = omega (arith, good_number j (λ i h. g i (omega arith)), (good_from (suc j) (g (suc j) (omega arith))).0)
+
+  -- so there are 768 of them at most
+  pub fault_near : list_fault l ≤ 7680
+  unfolding list_fault first_bad
+  fault_near =
+      let n = first_failing (good_entry l) (entry_count l) in
+      ⊎_elim
+      (λ (h : n ≤ 768). omega arith)
+      (λ (h : 768 < n).
+      let before : (i : ℕ) → i ≤ 768 → good_entry l i ≡ true = λ i k. first_failing_before (good_entry l) (entry_count l) i (omega arith) in
+      absurd (omega (arith, good_number 768 before, (good_from 768 (before 768 (omega arith))).1)))
+      (le_or_lt n 768)

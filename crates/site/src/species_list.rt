@@ -1,5 +1,6 @@
 // A list of species that a buyer lends: its check, and the search in it.
 ghost use Rattle.std.specs.Prelude.{◌≡◌, ◌≤◌, [], MatchResult, Ok, Err};
+ghost use Rattle.numbers.specs.TwoBytes.{AllBytes};
 ghost use Rattle.site.specs.SpeciesList.{entry_count, place_of, lists, list_rule, list_fault};
 
 use crate::{Refusal, Rule};
@@ -10,6 +11,7 @@ use numbers::word_at;
 pub struct SpeciesList<'a> {
     pub bytes: &'a [u8],
     ghost good: { list_rule bytes.now ≡ Ok tt },
+    ghost whole: { AllBytes bytes.now },
 }
 
 impl<'a> SpeciesList<'a> {

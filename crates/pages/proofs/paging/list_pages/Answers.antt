@@ -21,5 +21,5 @@ returns c =
     let f = c.args.file.now in
     let x = found_sites list (contents list f) c.in_ok-rows.ensures.answer in
     let e = rw (c.deref.ensures.0 ∙ x.lines) at c.put_pages.ensures in
-    let h = paged list f (λ i. omega (arith, c.type_inv.list.bytes i)) (λ i. omega (arith, c.type_inv.file i)) c.args.out.now x.ss x.holds e.0 e.1 in
+    let h = paged list f c.args.list.whole (λ i. omega (arith, c.type_inv.file i)) c.args.out.now x.ss x.holds e.0 e.1 in
     record { answer = h.0; buffer = h.1.0; numbers = h.1.1.0; enough = h.1.1.1.0; demand3 = h.1.1.1.1 }
