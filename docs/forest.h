@@ -9,7 +9,7 @@
  *   Refusal                                                                            Offset
  *    1  no bytes                                                                       0
  *    2  outer field cut: under 3 bytes, or length above 255 or beyond the end          the outer field
- *    3  outer tag other than 52 and 53 (hexadecimal)                                   the outer field
+ *    3  outer tag other than 52, 53 and 54 (hexadecimal)                               the outer field
  *    4  bytes after the 500th record, or after a single one                            the first byte left over
  *    5  inner field cut: under 3 bytes, or length beyond its record                    the field
  *    6  another tag than the next due, none left, or bytes after the last field due    the byte, or the record's end
@@ -21,16 +21,30 @@
  *   12  concentration or limit not a number, infinite, negative or above 1000          the month, from 0
  *   13  reading missing                                                                the month, from 0
  *   14  S or N of the year above 65,535                                                12
+ *   15  entry of the species list broken, not rising, or of a number not 256 to 1023   the entry, in the list
+ *   16  species that the species list lacks                                            the stand's field
  *
- * Offsets count bytes from the start of the file or record; of a site value each is 0; 8 for a month's rain is at the month.
- * The first fault from the left is given, 14 after all months, and 11 only where there is no other.
+ * Offsets count bytes from the start of the file or record; of a site value each is 0; 8 for a month's rain is at the month,
+ * and 15 is counted from the start of the list. 15 comes ahead of all others. Then the first fault from the left is given,
+ * 16 after 10 of the same stand, 14 after all months, and 11 only where there is no other.
  *
  * A field is a tag of one byte, a length of two bytes, high byte first, and a value. A record is an outer field whose value
- * is the fields of its kind, each once, rising. The kind is the outer tag: 52 has the fields 01 to 0F, 53 those and field 10
- * (all hexadecimal). A file is 1 to 500 records, which may be of both kinds. README.md, "A file of records", has the values
- * with their codes, units and ranges.
+ * is the fields of its kind, each once, rising. The kind is the outer tag: 52 has the fields 01 to 0F, 53 those and field 10,
+ * 54 those of 53 with stand entries of five bytes, the species number in two: species (2), share, yield (2); in 52 and 53 it
+ * is one byte (tags hexadecimal). A record of kind 52 has at most 96 bytes, of 53 100, of 54 104. A file is 1 to 500 records,
+ * which may be of several kinds. README.md, "A file of records", has the values with their codes, units and ranges.
  *
- * A site value is the same values in 50 bytes for kind 52 and 51 for kind 53, numbers of two bytes high byte first:
+ * Species 0 to 8 are the unit's own in every kind; above 8 kinds 52 and 53 have none. In kind 54 the species 256 to 1023
+ * stand in a species list, which is lent with every file, record and site value, right after it; other numbers are refused
+ * by 8. A list is entries of ten bytes, their numbers strictly rising, each number of two bytes high byte first:
+ *
+ *    0  species, 256 to 1023     2  Ca     4  Mg     6  K     8  N
+ *
+ * Ca, Mg, K and N are contents in hundredths of eq per tonne of dry matter, 0 to 65535. A list has at most 768 entries, 7680
+ * bytes; a list of no bytes is good, and has no species.
+ *
+ * A site value is the same values in 50 bytes for kind 52, 51 for kind 53 and 55 for kind 54, numbers of two bytes high byte
+ * first:
  *
  *    0  name, 8 bytes            8  length of the name       9  parent material
  *   10  clay                    11  sand                    12  root depth
@@ -38,10 +52,11 @@
  *   32  count of entries        33  immobilisation, 2       35  available share of weathering
  *   36  base cation deposition, 2                           38  critical Bc/Al ratio, 2
  *   40  gibbsite constant, 2    42  hydrogen ceiling, 2     44  acceptable nitrogen in leachate, 2
- *   46  deposition S, 2         48  deposition N, 2         50  temperature, of kind 53 alone
+ *   46  deposition S, 2         48  deposition N, 2         50  temperature, of kinds 53 and 54
+ *   51  high bytes of the four species, of kind 54 alone; the low bytes stand at 16, 20, 24 and 28
  *
  * The temperature is the mean in degrees Celsius plus 5, 0 to 25 for -5 to 20 degrees; a site of kind 52 weathers as at 8
- * degrees. Any 50 or 51 bytes are a site value; a bad one is refused by rules 7 to 10, another length by 7.
+ * degrees. Any 50, 51 or 55 bytes are a site value; a bad one is refused by rules 7 to 10 and 16, another length by 7.
  *
  * The rain sampler's months are 204 bytes, 17 for each of twelve months, numbers with the high byte first:
  *
@@ -75,45 +90,46 @@ extern "C" {
 #endif
 
 /* The listing of a file of records. A buffer of FOREST_MOST_TEXT bytes is always long enough. Stack: 107 KiB. */
-uint64_t forest_list(const uint8_t *file, size_t file_len, uint8_t *out, size_t out_len);
+uint64_t forest_list(const uint8_t *file, size_t file_len, const uint8_t *list, size_t list_len, uint8_t *out, size_t out_len);
 
 /* The listing as pages of 60 lines: a header and 59 sites, on the last page 1 to 59, and a short last page is not filled.
  * Every line is 64 characters and then 0A (hexadecimal): the name left in 8; right the four loads in 8 each, the region in
  * 2, the two exceedances in 7 each, the verdict in 7; one space. The buffer is for all pages together: one of
  * FOREST_MOST_PAGES bytes is always long enough. Stack: 107 KiB. */
-uint64_t forest_pages(const uint8_t *file, size_t file_len, uint8_t *out, size_t out_len);
+uint64_t forest_pages(const uint8_t *file, size_t file_len, const uint8_t *list, size_t list_len, uint8_t *out, size_t out_len);
 
-/* What the program prints for a file: the listing, or the line `refused N at M`. 11 alone is a refusal here, and does not
- * come with a buffer of FOREST_MOST_TEXT bytes. Stack: 72 KiB. */
-uint64_t forest_report(const uint8_t *file, size_t file_len, uint8_t *out, size_t out_len);
+/* The listing, or the line `refused N at M`, also where the list is refused; with an empty list, what the program prints for
+ * the file. 11 alone is a refusal here, and does not come with a buffer of FOREST_MOST_TEXT bytes. Stack: 72 KiB. */
+uint64_t forest_report(const uint8_t *file, size_t file_len, const uint8_t *list, size_t list_len, uint8_t *out, size_t out_len);
 
 /* A single record, read and written again: a buffer as long as the record, at most FOREST_MOST_RECORD bytes, is long enough.
  * Stack: 1 KiB. */
-uint64_t forest_rewrite(const uint8_t *record, size_t record_len, uint8_t *out, size_t out_len);
+uint64_t forest_rewrite(const uint8_t *record, size_t record_len, const uint8_t *list, size_t list_len, uint8_t *out,
+                        size_t out_len);
 
-/* The check of a site value: 0, or the first rule it breaks. Stack: 1 KiB. */
-uint64_t forest_check(const uint8_t *site, size_t site_len);
+/* The check of a list and a site value: 0, or the first rule they break. Stack: 1 KiB. */
+uint64_t forest_check(const uint8_t *site, size_t site_len, const uint8_t *list, size_t list_len);
 
 /* Four numbers: CLmaxS, CLminN, CLmaxN, CLnutN. Stack: 1 KiB. */
-uint64_t forest_loads(const uint8_t *site, size_t site_len, uint64_t *out, size_t out_len);
+uint64_t forest_loads(const uint8_t *site, size_t site_len, const uint8_t *list, size_t list_len, uint64_t *out, size_t out_len);
 
 /* Two numbers: the greatest allowed hydrogen level h, in tenths of meq per cubic metre, and how many levels the search
  * compared with the aluminium limit. It looks at the ceiling first and, only if that is not allowed, always at the mean,
  * down, of the greatest level known allowed (0 at first, not compared) and the least known not, until these are neighbours.
  * So the count is 1 exactly where the ceiling is allowed, and never more than 14. Stack: 1 KiB. */
-uint64_t forest_level(const uint8_t *site, size_t site_len, uint64_t *out, size_t out_len);
+uint64_t forest_level(const uint8_t *site, size_t site_len, const uint8_t *list, size_t list_len, uint64_t *out, size_t out_len);
 
 /* Eight numbers: the four loads, region (0 to 4), acid exceedance, nutrient exceedance, mark (0 within, 1 over).
  * Stack: 1 KiB. */
-uint64_t forest_judge(const uint8_t *site, size_t site_len, uint64_t *out, size_t out_len);
+uint64_t forest_judge(const uint8_t *site, size_t site_len, const uint8_t *list, size_t list_len, uint64_t *out, size_t out_len);
 
 /* The pair of a year from the rain sampler, judged at the site in place of its own. Ten numbers: S, N, then the eight of
  * forest_judge for the site with this pair. Each reading counts in whole micrograms per litre, up, a value below the limit
  * as the limit. S is the sum of mm times micrograms, divided by 1600, up; N that of both forms of nitrogen, divided by 1400,
- * up. The site is checked first, then the length of the months, then each month in order: rain (8), sulphate, nitrate,
+ * up. List and site are checked first, then the length of the months, then each month in order: rain (8), sulphate, nitrate,
  * ammonium (12 or 13, also in a month without rain). Stack: 2 KiB. */
-uint64_t forest_sample(const uint8_t *site, size_t site_len, const uint8_t *months, size_t months_len, uint64_t *out,
-                       size_t out_len);
+uint64_t forest_sample(const uint8_t *site, size_t site_len, const uint8_t *list, size_t list_len, const uint8_t *months,
+                       size_t months_len, uint64_t *out, size_t out_len);
 
 /* No listing and no report is longer than the first, and no accepted record than the third. The second is the length of all
  * pages of a file of 500 records. */

@@ -4,16 +4,15 @@ use mathlib.Core.Path.{◌≡◌, ◌∙◌}
 use native.Mathlib.Omega.{arith}
 use native.Mathlib.Nat.{mod-eq_of_lt}
 use Rattle.std.specs.Prelude.{Ok, Err}
-use Rattle.site.specs.Refusal.{Checked, rule_number}
+use Rattle.site.specs.Refusal.{rule_number}
 use Rattle.site.specs.declared.Refusal.{Refusal}
 use Rattle.site.specs.declared.Rule.{Rule}
-use Rattle.site.specs.declared.Rule.TheVariants.{NoBytes, OuterCut, OuterTag, TooMany, InnerCut, InnerTag, BadLength, OutOfRange, NotRising, SharesNotWhole, BufferShort, BadConcentration, NoReading, PairTooLarge}
-use Rattle.output.specs.Output.{Written, write_answer}
-use Rattle.output.proofs.OutputLaws.{count_is, refused_at_0}
-use Rattle.exports.specs.Codes.{code_base, written_code, Decodes}
+use Rattle.site.specs.declared.Rule.TheVariants.{NoBytes, OuterCut, OuterTag, TooMany, InnerCut, InnerTag, BadLength, OutOfRange, NotRising, SharesNotWhole, BufferShort, BadConcentration, NoReading, PairTooLarge, BadList, NotListed}
+use Rattle.output.specs.Output.{Written}
+use Rattle.exports.specs.Codes.{code_base, written_code, Decodes, Small}
 
--- the rules' numbers are 1 to 14
-pub number_range : (r : Rule) → (1 ≤ rule_number r) × (rule_number r ≤ 14)
+-- the rules' numbers are 1 to 16
+pub number_range : (r : Rule) → (1 ≤ rule_number r) × (rule_number r ≤ 16)
 number_range NoBytes = (omega arith, omega arith)
 number_range OuterCut = (omega arith, omega arith)
 number_range OuterTag = (omega arith, omega arith)
@@ -28,6 +27,8 @@ number_range BufferShort = (omega arith, omega arith)
 number_range BadConcentration = (omega arith, omega arith)
 number_range NoReading = (omega arith, omega arith)
 number_range PairTooLarge = (omega arith, omega arith)
+number_range BadList = (omega arith, omega arith)
+number_range NotListed = (omega arith, omega arith)
 
 -- a number below 2³² is a count
 pub count_below : (l : Written) {r : ℕ} → r ≡ written_code l → r < code_base → l ≡ Ok r
@@ -35,14 +36,11 @@ unfolding written_code
 count_below (Ok n) e h = rw e
 count_below (Err k) e h = absurd (omega (arith, (number_range k.rule).0))
 
-pub decodes : (l : Written) {r : ℕ} → r ≡ written_code l → ((n : ℕ) → l ≡ Ok n → n < code_base) → ((k : Refusal) → l ≡ Err k → k.at < code_base) → Decodes l r
+-- what the number says of an answer that it has room for
+pub decodes : (answer : Written) {l : Written} {r : ℕ} → l ≡ answer → r ≡ written_code l → Small l → Decodes answer r
 unfolding written_code
-decodes l e small near = record {
+decodes answer {l} is e small = rw is at (record {
   below = count_below l e;
-  count = λ n q. (rw q at e, rw (rw q at e) (small n q));
-  refusal = λ k q. (rw q at e ∙ rw (mod-eq_of_lt (near k q)), near k q);
-}
-
--- the answer by what a check says
-pub by_check_decodes : (c : Checked) (n : ℕ) → n < code_base → {r : ℕ} → r ≡ written_code (write_answer c n) → Decodes (write_answer c n) r
-by_check_decodes c n h e = decodes (write_answer c n) e (λ k q. omega (arith, count_is c n q)) (λ k q. omega (arith, refused_at_0 c n q))
+  count = λ n q. (rw q at e, rw (rw q at e) (small.count n q));
+  refusal = λ k q. (rw q at e ∙ rw (mod-eq_of_lt (small.offset k q)), small.offset k q);
+})

@@ -1,46 +1,97 @@
--- What the listing, the report and the pages of a file give to C.
+-- What the listing, the report and the pages of a file are with a list that is lent, and what they give to C.
 use Prim.Native.Nat.{ℕ, ◌<◌}
-use mathlib.Core.Path.{◌≡◌, sym, ap, ◌∙◌}
+use mathlib.Core.Path.{◌≡◌, refl, sym, ap, ◌∙◌}
 use mathlib.Core.List.{List}
 use native.Mathlib.Omega.{arith}
-use lib.ListN.{take}
+use lib.ListN.{length, take}
+use Rattle.site.specs.SpeciesList.{list_rule, list_fault}
 use Rattle.site.specs.declared.Site.{Site}
 use Rattle.std.specs.Prelude.{Ok, Err}
 use Rattle.site.specs.declared.Refusal.{Refusal}
-use Rattle.output.specs.Output.{Written}
+use Rattle.site.proofs.ListLaws.{fault_near}
+use Rattle.output.specs.Output.{Written, held}
+use Rattle.text.specs.RefusalLine.{refusal}
 use Rattle.text.specs.TextAnswer.{text_answer, RoomEnough}
 use Rattle.output.proofs.OutputLaws.{count_is, refused_at_0}
 use Rattle.record.specs.File.{contents}
-use Rattle.listing.specs.FileText.{file_answer, FileRoom}
-use Rattle.listing.specs.Reports.{report_of}
-use Rattle.listing.specs.PrintedDemand3.{LinesSay, TextSays, WrittenSays, Demand3, WrittenDemand3}
+use Rattle.listing.specs.FileText.{file_answer, file_held, FileRoom}
+use Rattle.listing.specs.Reports.{printed, report_of}
+use Rattle.listing.specs.PrintedDemand3.{WrittenSays, WrittenDemand3}
 use Rattle.listing.proofs.ListLaws.{file_count, file_fault_near}
-use Rattle.exports.specs.Codes.{code_base, written_code, Decodes}
-use Rattle.exports.proofs.CodeLaws.{decodes, count_below}
+use Rattle.exports.specs.Codes.{code_base, written_code, Small}
+use Rattle.exports.specs.Lent.{lent, lent_contents, lent_report, LentSays}
+use Rattle.exports.proofs.CodeLaws.{count_below}
+use Rattle.exports.proofs.LentLaws.{lent_good, lent_bad}
 
-module _ (Say : List Site → List ℕ → Type 0) (f : List ℕ) (answer l : Written) (e : List ℕ) (r : ℕ) (is : l ≡ answer) (code : r ≡ written_code l) (says : WrittenSays Say f e l) where
-  below : r < code_base → TextSays Say f (take r e)
-  below h = says r (count_below l code h)
+-- ---- a text of the sites of a file: the listing, the pages
 
-  -- what each call promises beside the answer and the buffer
-  pub decoded :
-      ((n : ℕ) → l ≡ Ok n → n < code_base) → ((k : Refusal) → answer ≡ Err k → k.at < code_base)
-      → Decodes answer r × (r < code_base → TextSays Say f (take r e))
-  decoded small near = (decodes answer (code ∙ ap written_code is) (λ n q. small n (is ∙ q)) near, below)
+module _ (most : ℕ) (text : List Site → List ℕ) (Say : List ℕ → List Site → List ℕ → Type 0) (list f d : List ℕ) where
+  -- what the call does that takes the list's bytes
+  pub record Filed (e : List ℕ) (l : Written) : Type 0 where
+    pub answer : l ≡ file_answer text (lent_contents list f) d
+    pub buffer : e ≡ file_held text (lent_contents list f) d
+    pub small : Small l
+    pub demand3 : list_rule list ≡ Ok tt → WrittenSays Say list f e l
 
--- a text of the sites of a file: the listing, the pages
-pub file_decoded :
-    (most : ℕ) (text : List Site → List ℕ) (Say : List Site → List ℕ → Type 0) (f d : List ℕ) (l : Written) (e : List ℕ) (r : ℕ) → most < code_base
-    → l ≡ file_answer text (contents f) d → r ≡ written_code l → WrittenSays Say f e l → FileRoom most text (contents f) d l
-    → Decodes (file_answer text (contents f) d) r × (r < code_base → TextSays Say f (take r e))
-file_decoded most text Say f d l e r small is code says room =
-    decoded Say f (file_answer text (contents f) d) l e r is code says
-    (λ n q. omega (arith, file_count most text Say f d (sym is ∙ q) (rw q at room)))
-    (λ k q. omega (arith, file_fault_near most text Say f d q))
+  pub list_refused : {r : Refusal} → list_rule list ≡ Err r.rule → r.at ≡ list_fault list → Filed d (Err r)
+  unfolding file_answer file_held
+  list_refused bad at =
+      let is = lent_bad list (contents list f) bad at in
+      record {
+        answer = rw is;
+        buffer = rw is;
+        small = record { count = λ n q. cc; offset = λ k q. by_place k q };
+        demand3 = λ good n q. cc;
+      }
+    where
+      by_place : (k : Refusal) → ◌≡◌ {A = Written} (Err _) (Err k) → k.at < code_base
+      by_place k q = let z : _ ≡ k = cc in rw (← z) (omega (arith, at, fault_near list))
 
--- the report
-pub report_decoded :
-    (f d : List ℕ) (l : Written) (e : List ℕ) (r : ℕ) → l ≡ text_answer (report_of f) d → r ≡ written_code l → WrittenDemand3 f e l → RoomEnough (report_of f) d l
-    → Decodes (text_answer (report_of f) d) r × (r < code_base → Demand3 f (take r e))
-report_decoded f d l e r is code says most =
-    decoded LinesSay f (text_answer (report_of f) d) l e r is code says (λ n q. omega (arith, count_is _ _ (sym is ∙ q), most.bounded)) (λ k q. omega (arith, refused_at_0 _ _ q))
+  pub filed : {e : List ℕ} {l : Written} → list_rule list ≡ Ok tt → most < code_base
+      → l ≡ file_answer text (contents list f) d → e ≡ file_held text (contents list f) d → WrittenSays Say list f e l → FileRoom most text (contents list f) d l → Filed e l
+  filed good fits answer buffer says room =
+      let is = lent_good list (contents list f) good in
+      record {
+        answer = rw is answer;
+        buffer = rw is buffer;
+        small = record {
+          count = λ n q. omega (arith, file_count most text Say list f d (sym answer ∙ q) (rw q at room));
+          offset = λ k q. omega (arith, file_fault_near most text Say list f d (sym answer ∙ q));
+        };
+        demand3 = λ g. says;
+      }
+
+-- ---- the report
+
+module _ (list f d : List ℕ) where
+  pub record Reports (e : List ℕ) (l : Written) : Type 0 where
+    pub answer : l ≡ text_answer (lent_report list f) d
+    pub buffer : e ≡ held (lent_report list f) d
+    pub small : Small l
+    pub demand3 : list_rule list ≡ Ok tt → WrittenDemand3 list f e l
+
+  small_text : {text : List ℕ} {l : Written} → l ≡ text_answer text d → RoomEnough text d l → Small l
+  small_text is room = record {
+    count = λ n q. omega (arith, count_is _ _ (sym is ∙ q), room.bounded);
+    offset = λ k q. omega (arith, refused_at_0 _ _ (sym is ∙ q));
+  }
+
+  pub report_refused : {e : List ℕ} {l : Written} {r : Refusal} → list_rule list ≡ Err r.rule → r.at ≡ list_fault list
+      → l ≡ text_answer (refusal r.rule r.at) d → e ≡ held (refusal r.rule r.at) d → RoomEnough (refusal r.rule r.at) d l → Reports e l
+  unfolding printed
+  report_refused bad at answer buffer room =
+      let is = lent_bad list (contents list f) bad at in
+      record { answer = rw is answer; buffer = rw is buffer; small = small_text answer room; demand3 = λ good. (let z = sym bad ∙ good in cc) }
+
+  pub reported_lent : {e : List ℕ} {l : Written} → list_rule list ≡ Ok tt
+      → l ≡ text_answer (report_of list f) d → e ≡ held (report_of list f) d → WrittenDemand3 list f e l → RoomEnough (report_of list f) d l → Reports e l
+  unfolding report_of
+  reported_lent good answer buffer says room =
+      let is = lent_good list (contents list f) good in
+      record { answer = rw is answer; buffer = rw is buffer; small = small_text answer room; demand3 = λ g. says }
+
+-- ---- to C
+
+pub told : (Say : List ℕ → List Site → List ℕ → Type 0) (list f e : List ℕ) (l : Written) {r : ℕ} → r ≡ written_code l
+    → (list_rule list ≡ Ok tt → WrittenSays Say list f e l) → r < code_base → LentSays Say list f (take r e)
+told Say list f e l {r} code says h good = says good r (count_below l code h)

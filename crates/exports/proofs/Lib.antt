@@ -1,4 +1,5 @@
 pub mod CodeLaws
+pub mod LentLaws
 pub mod FileCallLaws
 pub mod SiteValueLaws
 pub mod SampleCallLaws

@@ -21,6 +21,11 @@ pub record Decodes (answer : Written) (r : ℕ) : Type 0 where
   pub count : (n : ℕ) → answer ≡ Ok n → (r ≡ n) × (r < code_base)
   pub refusal : (e : Refusal) → answer ≡ Err e → (r ≡ rule_number e.rule * code_base + e.at) × (e.at < code_base)
 
+-- counts and offsets that one number has room for
+pub record Small (answer : Written) : Type 0 where
+  pub count : (n : ℕ) → answer ≡ Ok n → n < code_base
+  pub offset : (e : Refusal) → answer ≡ Err e → e.at < code_base
+
 -- a record read and written again: what the reader says, else 11 or the count of its own bytes
 unfoldable pub rewrite_answer : Result Site Refusal → (bytes old : List ℕ) → Written
 rewrite_answer (Ok s) b old = write_answer (room_rule (length b) (length old)) (length b)

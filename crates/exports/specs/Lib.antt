@@ -1,3 +1,4 @@
+pub mod Lent
 pub mod Codes
 pub mod Numbers
 pub mod Layout

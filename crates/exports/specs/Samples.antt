@@ -1,4 +1,4 @@
--- The call on a site value and the rain sampler's months: the bytes of both, and the ten numbers.
+-- The call on a site value, a list and the rain sampler's months: the bytes of both, and the ten numbers.
 use Rattle.std.specs.Prelude.{ℕ, ◌≡◌, List, ◌∷◌, eqb, Result, Ok, Err, length, get_or, take, drop}
 use Rattle.site.specs.Choice.{pick}
 use Rattle.site.specs.Refusal.{Checked, unless}
@@ -9,6 +9,7 @@ use Rattle.readings.specs.MonthBytes.{months_in}
 use Rattle.sampler.specs.YearPair.{year_of}
 use Rattle.sampler.specs.SampleAnswers.{with_pair, year_answer}
 use Rattle.sampler.specs.declared.Sampled.{Sampled}
+use Rattle.exports.specs.Lent.{lent}
 use Rattle.exports.specs.Numbers.{numbers_written, numbers_held}
 use Rattle.exports.specs.Layout.{site_in, value_check, judged_numbers, judgement_numbers}
 
@@ -16,9 +17,9 @@ use Rattle.exports.specs.Layout.{site_in, value_check, judged_numbers, judgement
 unfoldable pub months_length : List ℕ → Checked
 months_length m = pick (eqb (length m) 204) (Ok tt) (Err BadLength)
 
--- the rules of the site value, then the length of the months, then their rules and that of the year
-unfoldable pub sample_in : (site months : List ℕ) → Result Sampled Refusal
-sample_in b m = unless (value_check b) 0 (unless (months_length m) 0 (year_answer (site_in b) (year_of (months_in m))))
+-- the rule of the list, the rules of the site value, then the length of the months, then their rules and that of the year
+unfoldable pub sample_in : (site list months : List ℕ) → Result Sampled Refusal
+sample_in b list m = lent list (unless (value_check list b) 0 (unless (months_length m) 0 (year_answer list (site_in b) (year_of (months_in m)))))
 
 -- S and N, then the eight numbers of their judgement
 unfoldable pub sampled_numbers : Sampled → List ℕ
@@ -36,6 +37,6 @@ abbrev pub sample_held : Result Sampled Refusal → (old : List ℕ) → List �
 sample_held a old = numbers_held (sampled a) old
 
 -- the ten numbers: the pair of the months, and what `forest_judge` gives for the site with this pair put into its field 0F
-pub record NumbersByKey (site months numbers : List ℕ) : Type 0 where
+pub record NumbersByKey (site list months numbers : List ℕ) : Type 0 where
   pub pair : year_of (months_in months) ≡ Ok (record { sulphur = get_or numbers 0 0; nitrogen = get_or numbers 1 0 })
-  pub judgement : take 8 (drop 2 numbers) ≡ judgement_numbers (with_pair (site_in site) (record { sulphur = get_or numbers 0 0; nitrogen = get_or numbers 1 0 }))
+  pub judgement : take 8 (drop 2 numbers) ≡ judgement_numbers list (with_pair (site_in site) (record { sulphur = get_or numbers 0 0; nitrogen = get_or numbers 1 0 }))

@@ -1,9 +1,24 @@
 // A site value from its bytes.
-ghost use Rattle.std.specs.Prelude.{◌≡◌};
-ghost use Rattle.exports.specs.Layout.{site_as};
+ghost use Rattle.std.specs.Prelude.{◌≡◌, ◌<◌};
+ghost use Rattle.exports.specs.Layout.{entry_in, site_as};
 
 use numbers::{byte, word_at};
-use site::{Name, REFERENCE_TEMPERATURE, RecordKind, Site, Stand, entry_at, name_in};
+use site::{Entry, Name, REFERENCE_TEMPERATURE, RecordKind, Site, Stand, name_in};
+use std::array;
+
+// Entry i of the stand; where its species number has no high byte, that is 0.
+#[tactic(auto, unfolding(crate::specs::Layout::entry_in))]
+fn entry_in(b: &[u8], i: usize) -> Entry
+    requires { i < 4 }
+    ensures { result ≡ entry_in b.now i }
+{
+    let at = 16 + 4 * i;
+    Entry {
+        species: u16::from_be_bytes([byte(b, 51 + i), byte(b, at)]),
+        share: byte(b, at + 1),
+        yield_kg: word_at(b, at + 2),
+    }
+}
 
 #[tactic(auto, unfolding(crate::specs::Layout::site_as))]
 pub fn site_as(kind: RecordKind, b: &[u8]) -> Site
@@ -22,12 +37,7 @@ pub fn site_as(kind: RecordKind, b: &[u8]) -> Site
         drainage: byte(b, 13),
         percolation: word_at(b, 14),
         stand: Stand {
-            entries: [
-                entry_at(b, 16),
-                entry_at(b, 20),
-                entry_at(b, 24),
-                entry_at(b, 28),
-            ],
+            entries: array::from_fn(|i| entry_in(b, i)),
             count: byte(b, 32),
         },
         immobilisation: word_at(b, 33),

@@ -1,6 +1,6 @@
 /*
- * The calls of forest.h as C sees them, on the record A1 of document 01, and on this record in kind 53: every answer, every
- * element of the lent buffer, and nothing, by null pointers. The last line is how many passed and failed.
+ * The calls of forest.h as C sees them, on the record A1 of document 01, and on this record in kinds 53 and 54: every answer,
+ * every element of the lent buffer, and nothing, by null pointers. The last line is how many passed and failed.
  */
 #include "forest.h"
 
@@ -8,9 +8,10 @@
 #include <string.h>
 
 #define FIELDS_02_TO_06 2, 0, 1, 1, 3, 0, 2, 10, 65, 4, 0, 1, 50, 5, 0, 1, 1, 6, 0, 2, 0, 200
-#define FIELDS_07_TO_0E                                                                                                  \
-    7, 0, 4, 0, 100, 0x07, 0xD0, 8, 0, 2, 0, 50, 9, 0, 1, 80, 10, 0, 2, 0x01, 0x2C, 11, 0, 2, 0x03, 0xE8, 12, 0, 2, 0x0B, \
-        0xB8, 13, 0, 2, 0x03, 0xE8, 14, 0, 2, 0, 20
+#define FIELDS_08_TO_0E                                                                                                  \
+    8, 0, 2, 0, 50, 9, 0, 1, 80, 10, 0, 2, 0x01, 0x2C, 11, 0, 2, 0x03, 0xE8, 12, 0, 2, 0x0B, 0xB8, 13, 0, 2, 0x03, 0xE8, \
+        14, 0, 2, 0, 20
+#define FIELDS_07_TO_0E 7, 0, 4, 0, 100, 0x07, 0xD0, FIELDS_08_TO_0E
 
 static const uint8_t file[156] = {
     0x52, 0, 75, 1, 0, 2, 'A', '1', FIELDS_02_TO_06, FIELDS_07_TO_0E, 15, 0, 4, 0x01, 0xF4, 0x02, 0xBC,
@@ -21,10 +22,25 @@ static const uint8_t mixed[160] = {
     0x53, 0, 79, 1, 0, 2, 'A', '1', FIELDS_02_TO_06, FIELDS_07_TO_0E, 15, 0, 4, 0x01, 0xF4, 0x02, 0xBC, 16, 0, 1, 0,
     0x52, 0, 75, 1, 0, 2, 'B', '2', FIELDS_02_TO_06, FIELDS_07_TO_0E, 15, 0, 4, 0x00, 0xC8, 0x00, 0xF0,
 };
-enum { RECORD = 78, RECORD_53 = 82, SITE = 50, SITE_53 = 51, MONTH = 17, MONTHS = 204, ROOM = 200, SPARE = 0xA5 };
+/* A1 in kind 54, of species 513 at 8 degrees, before B2 in kind 52. */
+static const uint8_t overseas[161] = {
+    0x54, 0, 80, 1, 0, 2, 'A', '1', FIELDS_02_TO_06, 7, 0, 5, 2, 1, 100, 0x07, 0xD0, FIELDS_08_TO_0E,
+    15, 0, 4, 0x01, 0xF4, 0x02, 0xBC, 16, 0, 1, 13,
+    0x52, 0, 75, 1, 0, 2, 'B', '2', FIELDS_02_TO_06, FIELDS_07_TO_0E, 15, 0, 4, 0x00, 0xC8, 0x00, 0xF0,
+};
+/* Species 256, 513 and 1023 with their Ca, Mg, K and N: 5389 1980 1660 7782 as pine; 10000 2000 3000 12000; 65535 each. */
+static const uint8_t list[30] = {
+    1, 0, 0x15, 0x0D, 0x07, 0xBC, 0x06, 0x7C, 0x1E, 0x66,
+    2, 1, 0x27, 0x10, 0x07, 0xD0, 0x0B, 0xB8, 0x2E, 0xE0,
+    3, 0xFF, 0xFF, 0xFF, 0xFF, 0xFF, 0xFF, 0xFF, 0xFF, 0xFF,
+};
+#define LENT list, sizeof list
+#define NONE NULL, 0
+enum { RECORD = 78, RECORD_53 = 82, RECORD_54 = 83, SITE = 50, SITE_53 = 51, SITE_54 = 55, STAND = 30, ENTRY = 10 };
+enum { MONTH = 17, MONTHS = 204, ROOM = 200, SPARE = 0xA5 };
 
 /* The longest listing and record that documents 01 and 02 let be are within what the header gives; 500 sites are on 9 pages. */
-_Static_assert(FOREST_MOST_TEXT >= 51 + 500 * (8 + 7 * 8 + 7 + 1) && FOREST_MOST_RECORD >= 100, "forest.h: too short");
+_Static_assert(FOREST_MOST_TEXT >= 51 + 500 * (8 + 7 * 8 + 7 + 1) && FOREST_MOST_RECORD >= 104, "forest.h: too short");
 _Static_assert(FOREST_MOST_PAGES == (9 + 500) * (64 + 1), "forest.h: all pages");
 
 static const uint8_t site[SITE] = {
@@ -54,6 +70,15 @@ static const char mixed_listing[] = "id maxS minN maxN nutN region acidEx nutEx 
 static const char mixed_page[] = "id          maxS    minN    maxN    nutNre acidEx  nutExverdict \n"
                                  "A1           595     205     866     249 2    368    451   over \n"
                                  "B2           735     205    1021     249 0      0      0 within \n";
+
+/* For species 513 Nu is 240, Bu 300, A 150, h 631, M 126 + 150, and v 468,000. */
+static const char overseas_listing[] = "id maxS minN maxN nutN region acidEx nutEx verdict\n"
+                                       "A1 401 290 735 334 2 492 366 over\n"
+                                       "B2 735 205 1021 249 0 0 0 within\n";
+
+static const char overseas_page[] = "id          maxS    minN    maxN    nutNre acidEx  nutExverdict \n"
+                                    "A1           401     290     735     334 2    492    366   over \n"
+                                    "B2           735     205    1021     249 0      0      0 within \n";
 
 static unsigned passed, failed;
 
@@ -96,37 +121,136 @@ static void expect_numbers(const char *what, uint64_t answer, uint64_t expected,
     lend();
 }
 
+/* Kind 54, the species list, and the refusals 15 and 16. */
+static void overseas_calls(const uint64_t *judged) {
+    const size_t length = sizeof overseas_listing - 1, page_length = sizeof overseas_page - 1;
+    expect_text("kind 54", forest_list(overseas, sizeof overseas, LENT, text, length), length, overseas_listing, length);
+    expect_text("kind 54 does not fit", forest_list(overseas, sizeof overseas, LENT, text, length - 1), refusal(11, 0), "", 0);
+    expect_text("kind 54 reported", forest_report(overseas, sizeof overseas, LENT, text, ROOM), length, overseas_listing,
+                length);
+    expect_text("a page with kind 54", forest_pages(overseas, sizeof overseas, LENT, text, ROOM), page_length, overseas_page,
+                page_length);
+    expect_text("kind 54 again", forest_rewrite(overseas, RECORD_54, LENT, text, RECORD_54), RECORD_54, overseas, RECORD_54);
+    expect_text("kind 54 in 82 bytes", forest_rewrite(overseas, RECORD_54, LENT, text, RECORD_54 - 1), refusal(11, 0), "", 0);
+    expect_text("kind 52, an empty list", forest_list(file, sizeof file, NONE, text, ROOM), sizeof listing - 1, listing,
+                sizeof listing - 1);
+
+    /* A1 in 55 bytes. */
+    static const uint64_t listed[10] = {500, 700, 401, 290, 735, 334, 2, 492, 366, 1}, searched[2] = {631, 11};
+    uint8_t site_54[SITE_54 + 1] = {0};
+    memcpy(site_54, site, SITE);
+    site_54[16] = 1, site_54[50] = 13, site_54[51] = 2;
+    expect("a site of 55 bytes", forest_check(site_54, SITE_54, LENT) == 0);
+    expect_numbers("loads of species 513", forest_loads(site_54, SITE_54, LENT, numbers, 4), 4, listed + 2, 4);
+    expect_numbers("a level of species 513", forest_level(site_54, SITE_54, LENT, numbers, 2), 2, searched, 2);
+    expect_numbers("a judgement of species 513", forest_judge(site_54, SITE_54, LENT, numbers, 8), 8, listed + 2, 8);
+    expect_numbers("a year of species 513", forest_sample(site_54, SITE_54, LENT, months, MONTHS, numbers, 10), 10, listed, 10);
+    expect("a site of 54 bytes", forest_check(site_54, SITE_54 - 1, LENT) == refusal(7, 0));
+    expect("a site of 56 bytes", forest_check(site_54, SITE_54 + 1, LENT) == refusal(7, 0));
+    expect_numbers("loads of 54 bytes", forest_loads(site_54, SITE_54 - 1, LENT, numbers, 4), refusal(7, 0), listed, 0);
+    expect_numbers("a level of 54 bytes", forest_level(site_54, SITE_54 - 1, LENT, numbers, 2), refusal(7, 0), listed, 0);
+    expect_numbers("a judgement of 54 bytes", forest_judge(site_54, SITE_54 - 1, LENT, numbers, 8), refusal(7, 0), listed, 0);
+    expect_numbers("a year of 56 bytes", forest_sample(site_54, SITE_54 + 1, LENT, months, MONTHS, numbers, 10), refusal(7, 0),
+                   listed, 0);
+
+    /* Pine's contents by the list; spruce's, whatever the list: Nu 174, Bu 210, A 285, h 781, M 156 + 285. */
+    static const uint64_t of_spruce[4] = {656, 224, 952, 268};
+    site_54[16] = 0, site_54[51] = 1;
+    expect_numbers("a judgement of species 256", forest_judge(site_54, SITE_54, LENT, numbers, 8), 8, judged, 8);
+    site_54[16] = 1, site_54[51] = 0;
+    expect_numbers("loads of species 1", forest_loads(site_54, SITE_54, LENT, numbers, 4), 4, of_spruce, 4);
+    expect_numbers("species 1, an empty list", forest_loads(site_54, SITE_54, NONE, numbers, 4), 4, of_spruce, 4);
+    /* Nu is 1310, and the demand 3933 beside 380 for Bu: A 30, h 372, M 74 + 30. */
+    static const uint64_t of_the_greatest[4] = {149, 1360, 1525, 1404};
+    site_54[16] = 0xFF, site_54[51] = 3;
+    expect_numbers("loads of species 1023", forest_loads(site_54, SITE_54, LENT, numbers, 4), 4, of_the_greatest, 4);
+    site_54[16] = 9, site_54[51] = 0;
+    expect("species 9", forest_check(site_54, SITE_54, LENT) == refusal(8, 0));
+    site_54[16] = 0, site_54[51] = 4;
+    expect("species 1024", forest_check(site_54, SITE_54, LENT) == refusal(8, 0));
+
+    /* 16: species 514 is not in the list, and an empty list has none. */
+    uint8_t lacking[sizeof overseas];
+    memcpy(lacking, overseas, sizeof overseas);
+    lacking[STAND + 4] = 2;
+    expect_text("16 of a file", forest_list(lacking, sizeof lacking, LENT, text, ROOM), refusal(16, STAND), "", 0);
+    expect_text("16 of pages", forest_pages(lacking, sizeof lacking, LENT, text, ROOM), refusal(16, STAND), "", 0);
+    expect_text("16 reported", forest_report(lacking, sizeof lacking, LENT, text, ROOM), 17, "refused 16 at 30\n", 17);
+    expect_text("16 of a record", forest_rewrite(lacking, RECORD_54, LENT, text, ROOM), refusal(16, STAND), "", 0);
+    expect_text("16 by an empty list", forest_rewrite(overseas, RECORD_54, NONE, text, ROOM), refusal(16, STAND), "", 0);
+    lacking[STAND + 11] = 0xFF;
+    expect_text("16 ahead of field 08", forest_list(lacking, sizeof lacking, LENT, text, ROOM), refusal(16, STAND), "", 0);
+    lacking[STAND + 5] = 99;
+    expect_text("16 after 10", forest_list(lacking, sizeof lacking, LENT, text, ROOM), refusal(10, STAND), "", 0);
+    site_54[16] = 2, site_54[51] = 2;
+    expect("16 of a site", forest_check(site_54, SITE_54, LENT) == refusal(16, 0));
+    expect_numbers("16 of loads", forest_loads(site_54, SITE_54, LENT, numbers, 4), refusal(16, 0), listed, 0);
+    expect_numbers("16 of a level", forest_level(site_54, SITE_54, LENT, numbers, 2), refusal(16, 0), listed, 0);
+    expect_numbers("16 of a judgement", forest_judge(site_54, SITE_54, LENT, numbers, 8), refusal(16, 0), listed, 0);
+    expect_numbers("16 of a year", forest_sample(site_54, SITE_54, LENT, NULL, 0, numbers, 10), refusal(16, 0), listed, 0);
+
+    /* 15: the second entry has the first one's number. */
+    uint8_t bad[sizeof list];
+    memcpy(bad, list, sizeof list);
+    bad[ENTRY] = 1, bad[ENTRY + 1] = 0;
+#define BAD bad, sizeof bad
+    expect_text("15 of a file", forest_list(file, sizeof file, BAD, text, ROOM), refusal(15, ENTRY), "", 0);
+    expect_text("15 of pages", forest_pages(file, sizeof file, BAD, text, ROOM), refusal(15, ENTRY), "", 0);
+    expect_text("15 reported", forest_report(file, sizeof file, BAD, text, ROOM), 17, "refused 15 at 10\n", 17);
+    expect_text("15 in 16 bytes", forest_report(file, sizeof file, BAD, text, 16), refusal(11, 0), "", 0);
+    expect_text("15 of a record", forest_rewrite(file, RECORD, BAD, text, ROOM), refusal(15, ENTRY), "", 0);
+    expect_text("15 ahead of 1", forest_list(NULL, 0, BAD, NULL, 0), refusal(15, ENTRY), "", 0);
+    expect_text("pages: 15 ahead of 1", forest_pages(NULL, 0, BAD, NULL, 0), refusal(15, ENTRY), "", 0);
+    expect_text("no record: 15 ahead of 1", forest_rewrite(NULL, 0, BAD, NULL, 0), refusal(15, ENTRY), "", 0);
+    expect("15 of a site", forest_check(site, SITE, BAD) == refusal(15, ENTRY));
+    expect("15 ahead of 7", forest_check(NULL, 0, BAD) == refusal(15, ENTRY));
+    expect_numbers("15 of loads", forest_loads(NULL, 0, BAD, numbers, 4), refusal(15, ENTRY), listed, 0);
+    expect_numbers("15 of a level", forest_level(NULL, 0, BAD, numbers, 2), refusal(15, ENTRY), listed, 0);
+    expect_numbers("15 of a judgement", forest_judge(NULL, 0, BAD, numbers, 8), refusal(15, ENTRY), listed, 0);
+    expect_numbers("15 of a year", forest_sample(NULL, 0, BAD, NULL, 0, numbers, 10), refusal(15, ENTRY), listed, 0);
+    expect("29 bytes of a list", forest_check(site, SITE, list, sizeof list - 1) == refusal(15, 2 * ENTRY));
+    expect("a byte of a list", forest_check(site, SITE, list, 1) == refusal(15, 0));
+    memcpy(bad, list, sizeof list);
+    bad[0] = 0, bad[1] = 0xFF;
+    expect("a list from 255 on", forest_check(site, SITE, BAD) == refusal(15, 0));
+    memcpy(bad, list, sizeof list);
+    bad[2 * ENTRY] = 4, bad[2 * ENTRY + 1] = 0;
+    expect("a list up to 1024", forest_check(site, SITE, BAD) == refusal(15, 2 * ENTRY));
+}
+
 int main(void) {
     static const uint64_t sampled[10] = {500, 700, 735, 205, 1021, 249, 2, 221, 451, 1}, *const judged = sampled + 2;
     const size_t length = sizeof listing - 1, page_length = sizeof page - 1;
     lend();
 
-    expect_text("a listing", forest_list(file, sizeof file, text, length), length, listing, length);
-    expect_text("a listing that does not fit", forest_list(file, sizeof file, text, length - 1), refusal(11, 0), "", 0);
-    expect_text("a listing of a record cut", forest_list(file, sizeof file - 1, text, ROOM), refusal(2, RECORD), "", 0);
-    expect_text("a listing of nothing", forest_list(NULL, 0, NULL, 0), refusal(1, 0), "", 0);
+    expect_text("a listing", forest_list(file, sizeof file, LENT, text, length), length, listing, length);
+    expect_text("a listing that does not fit", forest_list(file, sizeof file, LENT, text, length - 1), refusal(11, 0), "", 0);
+    expect_text("a listing of a record cut", forest_list(file, sizeof file - 1, LENT, text, ROOM), refusal(2, RECORD), "", 0);
+    expect_text("a listing of nothing", forest_list(NULL, 0, NONE, NULL, 0), refusal(1, 0), "", 0);
 
-    expect_text("a page", forest_pages(file, sizeof file, text, page_length), page_length, page, page_length);
-    expect_text("a page that does not fit", forest_pages(file, sizeof file, text, page_length - 1), refusal(11, 0), "", 0);
-    expect_text("a page of a record cut", forest_pages(file, sizeof file - 1, text, ROOM), refusal(2, RECORD), "", 0);
-    expect_text("a page of nothing", forest_pages(NULL, 0, NULL, 0), refusal(1, 0), "", 0);
+    expect_text("a page", forest_pages(file, sizeof file, LENT, text, page_length), page_length, page, page_length);
+    expect_text("a page that does not fit", forest_pages(file, sizeof file, LENT, text, page_length - 1), refusal(11, 0), "",
+                0);
+    expect_text("a page of a record cut", forest_pages(file, sizeof file - 1, LENT, text, ROOM), refusal(2, RECORD), "", 0);
+    expect_text("a page of nothing", forest_pages(NULL, 0, NONE, NULL, 0), refusal(1, 0), "", 0);
 
-    expect_text("a report", forest_report(file, sizeof file, text, length), length, listing, length);
-    expect_text("a report of a record cut", forest_report(file, sizeof file - 1, text, ROOM), 16, "refused 2 at 78\n", 16);
-    expect_text("a report of nothing", forest_report(NULL, 0, NULL, 0), refusal(11, 0), "", 0);
+    expect_text("a report", forest_report(file, sizeof file, LENT, text, length), length, listing, length);
+    expect_text("a report of a record cut", forest_report(file, sizeof file - 1, LENT, text, ROOM), 16, "refused 2 at 78\n",
+                16);
+    expect_text("a report of nothing", forest_report(NULL, 0, NONE, NULL, 0), refusal(11, 0), "", 0);
 
-    expect_text("a record again", forest_rewrite(file, RECORD, text, ROOM), RECORD, file, RECORD);
-    expect_text("a record that does not fit", forest_rewrite(file, RECORD, text, RECORD - 1), refusal(11, 0), "", 0);
-    expect_text("two records", forest_rewrite(file, sizeof file, text, ROOM), refusal(4, RECORD), "", 0);
-    expect_text("no record", forest_rewrite(NULL, 0, NULL, 0), refusal(1, 0), "", 0);
+    expect_text("a record again", forest_rewrite(file, RECORD, LENT, text, ROOM), RECORD, file, RECORD);
+    expect_text("a record that does not fit", forest_rewrite(file, RECORD, LENT, text, RECORD - 1), refusal(11, 0), "", 0);
+    expect_text("two records", forest_rewrite(file, sizeof file, LENT, text, ROOM), refusal(4, RECORD), "", 0);
+    expect_text("no record", forest_rewrite(NULL, 0, NONE, NULL, 0), refusal(1, 0), "", 0);
 
-    expect("a site", forest_check(site, SITE) == 0);
-    expect("a site of 49 bytes", forest_check(site, SITE - 1) == refusal(7, 0));
-    expect("a site of no bytes", forest_check(NULL, 0) == refusal(7, 0));
+    expect("a site", forest_check(site, SITE, LENT) == 0);
+    expect("a site of 49 bytes", forest_check(site, SITE - 1, LENT) == refusal(7, 0));
+    expect("a site of no bytes", forest_check(NULL, 0, NONE) == refusal(7, 0));
 
-    expect_numbers("four loads", forest_loads(site, SITE, numbers, 4), 4, judged, 4);
-    expect_numbers("room for three loads", forest_loads(site, SITE, numbers, 3), refusal(11, 0), judged, 0);
-    expect_numbers("loads of no site", forest_loads(NULL, 0, NULL, 0), refusal(7, 0), judged, 0);
+    expect_numbers("four loads", forest_loads(site, SITE, LENT, numbers, 4), 4, judged, 4);
+    expect_numbers("room for three loads", forest_loads(site, SITE, LENT, numbers, 3), refusal(11, 0), judged, 0);
+    expect_numbers("loads of no site", forest_loads(NULL, 0, NONE, NULL, 0), refusal(7, 0), judged, 0);
 
     static const uint64_t searched[2] = {818, 11}, at_once[2] = {818, 1};
     uint8_t low_ceiling[SITE], no_ceiling[SITE];
@@ -134,28 +258,32 @@ int main(void) {
     low_ceiling[42] = 818 >> 8, low_ceiling[43] = 818 & 0xFF;
     memcpy(no_ceiling, site, SITE);
     no_ceiling[42] = no_ceiling[43] = 0;
-    expect_numbers("a level", forest_level(site, SITE, numbers, 2), 2, searched, 2);
-    expect_numbers("a ceiling allowed", forest_level(low_ceiling, SITE, numbers, 11), 2, at_once, 2);
-    expect_numbers("a ceiling of 0", forest_level(no_ceiling, SITE, numbers, 11), refusal(8, 0), searched, 0);
-    expect_numbers("room for a level alone", forest_level(site, SITE, numbers, 1), refusal(11, 0), searched, 0);
-    expect_numbers("a level of no site", forest_level(NULL, 0, NULL, 0), refusal(7, 0), searched, 0);
+    expect_numbers("a level", forest_level(site, SITE, LENT, numbers, 2), 2, searched, 2);
+    expect_numbers("a ceiling allowed", forest_level(low_ceiling, SITE, LENT, numbers, 11), 2, at_once, 2);
+    expect_numbers("a ceiling of 0", forest_level(no_ceiling, SITE, LENT, numbers, 11), refusal(8, 0), searched, 0);
+    expect_numbers("room for a level alone", forest_level(site, SITE, LENT, numbers, 1), refusal(11, 0), searched, 0);
+    expect_numbers("a level of no site", forest_level(NULL, 0, NONE, NULL, 0), refusal(7, 0), searched, 0);
 
-    expect_numbers("a judgement", forest_judge(site, SITE, numbers, 8), 8, judged, 8);
-    expect_numbers("room for seven numbers", forest_judge(site, SITE, numbers, 7), refusal(11, 0), judged, 0);
-    expect_numbers("a judgement of no site", forest_judge(NULL, 0, NULL, 0), refusal(7, 0), judged, 0);
+    expect_numbers("a judgement", forest_judge(site, SITE, LENT, numbers, 8), 8, judged, 8);
+    expect_numbers("room for seven numbers", forest_judge(site, SITE, LENT, numbers, 7), refusal(11, 0), judged, 0);
+    expect_numbers("a judgement of no site", forest_judge(NULL, 0, NONE, NULL, 0), refusal(7, 0), judged, 0);
 
     uint8_t came_within[SITE], missing[MONTHS];
     memcpy(came_within, site, SITE);
     came_within[46] = came_within[48] = 0;
     memcpy(missing, months, MONTHS);
     missing[11 * MONTH + 12] = 2;
-    expect_numbers("a year", forest_sample(came_within, SITE, months, MONTHS, numbers, 10), 10, sampled, 10);
-    expect_numbers("room for nine numbers", forest_sample(site, SITE, months, MONTHS, numbers, 9), refusal(11, 0), sampled, 0);
-    expect_numbers("a reading missing", forest_sample(site, SITE, missing, MONTHS, numbers, 11), refusal(13, 11), sampled, 0);
-    expect_numbers("203 bytes of months", forest_sample(site, SITE, months, MONTHS - 1, numbers, 11), refusal(7, 0), sampled, 0);
+    expect_numbers("a year", forest_sample(came_within, SITE, LENT, months, MONTHS, numbers, 10), 10, sampled, 10);
+    expect_numbers("room for nine numbers", forest_sample(site, SITE, LENT, months, MONTHS, numbers, 9), refusal(11, 0),
+                   sampled, 0);
+    expect_numbers("a reading missing", forest_sample(site, SITE, LENT, missing, MONTHS, numbers, 11), refusal(13, 11),
+                   sampled, 0);
+    expect_numbers("203 bytes of months", forest_sample(site, SITE, LENT, months, MONTHS - 1, numbers, 11), refusal(7, 0),
+                   sampled, 0);
     came_within[13] = 6;
-    expect_numbers("a bad site, no months", forest_sample(came_within, SITE, NULL, 0, numbers, 11), refusal(8, 0), sampled, 0);
-    expect_numbers("a year of no site", forest_sample(NULL, 0, NULL, 0, NULL, 0), refusal(7, 0), sampled, 0);
+    expect_numbers("a bad site, no months", forest_sample(came_within, SITE, LENT, NULL, 0, numbers, 11), refusal(8, 0),
+                   sampled, 0);
+    expect_numbers("a year of no site", forest_sample(NULL, 0, NONE, NULL, 0, NULL, 0), refusal(7, 0), sampled, 0);
 
     const size_t mixed_length = sizeof mixed_listing - 1;
     uint8_t hot[RECORD_53], unfinished[RECORD];
@@ -163,51 +291,59 @@ int main(void) {
     hot[81] = 26;
     memcpy(unfinished, mixed, RECORD);
     unfinished[2] = 75;
-    expect_text("both kinds", forest_list(mixed, sizeof mixed, text, ROOM), mixed_length, mixed_listing, mixed_length);
-    expect_text("both kinds reported", forest_report(mixed, sizeof mixed, text, ROOM), mixed_length, mixed_listing, mixed_length);
-    expect_text("a page of both kinds", forest_pages(mixed, sizeof mixed, text, ROOM), page_length, mixed_page, page_length);
-    expect_text("kind 53 again", forest_rewrite(mixed, RECORD_53, text, ROOM), RECORD_53, mixed, RECORD_53);
-    expect_text("kind 53 does not fit", forest_rewrite(mixed, RECORD_53, text, RECORD_53 - 1), refusal(11, 0), "", 0);
-    expect_text("a record after kind 53", forest_rewrite(mixed, sizeof mixed, text, ROOM), refusal(4, RECORD_53), "", 0);
-    expect_text("a temperature of 21", forest_rewrite(hot, RECORD_53, text, ROOM), refusal(8, RECORD), "", 0);
-    expect_text("kind 53 without a temperature", forest_rewrite(unfinished, RECORD, text, ROOM), refusal(6, RECORD), "", 0);
+    expect_text("both kinds", forest_list(mixed, sizeof mixed, LENT, text, ROOM), mixed_length, mixed_listing, mixed_length);
+    expect_text("both kinds reported", forest_report(mixed, sizeof mixed, LENT, text, ROOM), mixed_length, mixed_listing,
+                mixed_length);
+    expect_text("a page of both kinds", forest_pages(mixed, sizeof mixed, LENT, text, ROOM), page_length, mixed_page,
+                page_length);
+    expect_text("kind 53 again", forest_rewrite(mixed, RECORD_53, LENT, text, ROOM), RECORD_53, mixed, RECORD_53);
+    expect_text("kind 53 does not fit", forest_rewrite(mixed, RECORD_53, LENT, text, RECORD_53 - 1), refusal(11, 0), "", 0);
+    expect_text("a record after kind 53", forest_rewrite(mixed, sizeof mixed, LENT, text, ROOM), refusal(4, RECORD_53), "", 0);
+    expect_text("a temperature of 21", forest_rewrite(hot, RECORD_53, LENT, text, ROOM), refusal(8, RECORD), "", 0);
+    expect_text("kind 53 without a temperature", forest_rewrite(unfinished, RECORD, LENT, text, ROOM), refusal(6, RECORD),
+                "", 0);
     hot[0] = 0x52;
-    expect_text("kind 52 with a temperature", forest_rewrite(hot, RECORD_53, text, ROOM), refusal(6, RECORD), "", 0);
+    expect_text("kind 52 with a temperature", forest_rewrite(hot, RECORD_53, LENT, text, ROOM), refusal(6, RECORD), "", 0);
     hot[0] = 0x54;
-    expect_text("an outer tag of 54", forest_rewrite(hot, RECORD_53, text, ROOM), refusal(3, 0), "", 0);
+    expect_text("a stand of four bytes in kind 54", forest_rewrite(hot, RECORD_53, LENT, text, ROOM), refusal(7, STAND), "", 0);
+    hot[0] = 0x55;
+    expect_text("an outer tag of 55", forest_rewrite(hot, RECORD_53, LENT, text, ROOM), refusal(3, 0), "", 0);
 
     /* A1 in 51 bytes. At 20 degrees t is 1690, so that W is 211, w 168, Bu 181, A 430, h 895, M 179 + 430, and v 6500. */
     static const uint64_t cold[10] = {500, 700, 595, 205, 866, 249, 2, 368, 451, 1}, cold_searched[2] = {755, 11};
     static const uint64_t warm[10] = {500, 700, 939, 205, 1248, 249, 2, 7, 451, 1}, warm_searched[2] = {895, 11};
     uint8_t site_53[SITE_53 + 1] = {0};
     memcpy(site_53, site, SITE);
-    expect("a site of 51 bytes", forest_check(site_53, SITE_53) == 0);
-    expect("a site of 52 bytes", forest_check(site_53, SITE_53 + 1) == refusal(7, 0));
-    expect_numbers("loads at -5", forest_loads(site_53, SITE_53, numbers, 4), 4, cold + 2, 4);
-    expect_numbers("a level at -5", forest_level(site_53, SITE_53, numbers, 2), 2, cold_searched, 2);
-    expect_numbers("a judgement at -5", forest_judge(site_53, SITE_53, numbers, 8), 8, cold + 2, 8);
-    expect_numbers("a year at -5", forest_sample(site_53, SITE_53, months, MONTHS, numbers, 10), 10, cold, 10);
-    expect_numbers("the first 50 bytes", forest_judge(site_53, SITE, numbers, 8), 8, judged, 8);
-    expect_numbers("the first 49 bytes", forest_judge(site_53, SITE - 1, numbers, 8), refusal(7, 0), judged, 0);
-    expect_numbers("loads of 52 bytes", forest_loads(site_53, SITE_53 + 1, numbers, 4), refusal(7, 0), judged, 0);
-    expect_numbers("a level of 52 bytes", forest_level(site_53, SITE_53 + 1, numbers, 2), refusal(7, 0), judged, 0);
-    expect_numbers("a judgement of 52 bytes", forest_judge(site_53, SITE_53 + 1, numbers, 8), refusal(7, 0), judged, 0);
-    expect_numbers("a year of 52 bytes", forest_sample(site_53, SITE_53 + 1, months, MONTHS, numbers, 10), refusal(7, 0),
+    expect("a site of 51 bytes", forest_check(site_53, SITE_53, LENT) == 0);
+    expect("a site of 52 bytes", forest_check(site_53, SITE_53 + 1, LENT) == refusal(7, 0));
+    expect_numbers("loads at -5", forest_loads(site_53, SITE_53, LENT, numbers, 4), 4, cold + 2, 4);
+    expect_numbers("a level at -5", forest_level(site_53, SITE_53, LENT, numbers, 2), 2, cold_searched, 2);
+    expect_numbers("a judgement at -5", forest_judge(site_53, SITE_53, LENT, numbers, 8), 8, cold + 2, 8);
+    expect_numbers("a year at -5", forest_sample(site_53, SITE_53, LENT, months, MONTHS, numbers, 10), 10, cold, 10);
+    expect_numbers("the first 50 bytes", forest_judge(site_53, SITE, LENT, numbers, 8), 8, judged, 8);
+    expect_numbers("the first 49 bytes", forest_judge(site_53, SITE - 1, LENT, numbers, 8), refusal(7, 0), judged, 0);
+    expect_numbers("loads of 52 bytes", forest_loads(site_53, SITE_53 + 1, LENT, numbers, 4), refusal(7, 0), judged, 0);
+    expect_numbers("a level of 52 bytes", forest_level(site_53, SITE_53 + 1, LENT, numbers, 2), refusal(7, 0), judged, 0);
+    expect_numbers("a judgement of 52 bytes", forest_judge(site_53, SITE_53 + 1, LENT, numbers, 8), refusal(7, 0), judged, 0);
+    expect_numbers("a year of 52 bytes", forest_sample(site_53, SITE_53 + 1, LENT, months, MONTHS, numbers, 10), refusal(7, 0),
                    judged, 0);
     site_53[50] = 13;
-    expect_numbers("a judgement at 8", forest_judge(site_53, SITE_53, numbers, 8), 8, judged, 8);
+    expect_numbers("a judgement at 8", forest_judge(site_53, SITE_53, LENT, numbers, 8), 8, judged, 8);
     site_53[50] = 25;
-    expect_numbers("loads at 20", forest_loads(site_53, SITE_53, numbers, 4), 4, warm + 2, 4);
-    expect_numbers("a level at 20", forest_level(site_53, SITE_53, numbers, 2), 2, warm_searched, 2);
-    expect_numbers("a judgement at 20", forest_judge(site_53, SITE_53, numbers, 8), 8, warm + 2, 8);
-    expect_numbers("a year at 20", forest_sample(site_53, SITE_53, months, MONTHS, numbers, 10), 10, warm, 10);
+    expect_numbers("loads at 20", forest_loads(site_53, SITE_53, LENT, numbers, 4), 4, warm + 2, 4);
+    expect_numbers("a level at 20", forest_level(site_53, SITE_53, LENT, numbers, 2), 2, warm_searched, 2);
+    expect_numbers("a judgement at 20", forest_judge(site_53, SITE_53, LENT, numbers, 8), 8, warm + 2, 8);
+    expect_numbers("a year at 20", forest_sample(site_53, SITE_53, LENT, months, MONTHS, numbers, 10), 10, warm, 10);
     site_53[50] = 26;
-    expect("a site at 21", forest_check(site_53, SITE_53) == refusal(8, 0));
-    expect_numbers("loads at 21", forest_loads(site_53, SITE_53, numbers, 4), refusal(8, 0), judged, 0);
-    expect_numbers("a level at 21", forest_level(site_53, SITE_53, numbers, 2), refusal(8, 0), judged, 0);
-    expect_numbers("a judgement at 21", forest_judge(site_53, SITE_53, numbers, 8), refusal(8, 0), judged, 0);
-    expect_numbers("a year at 21", forest_sample(site_53, SITE_53, months, MONTHS, numbers, 10), refusal(8, 0), judged, 0);
-    expect("50 bytes, at no temperature", forest_check(site_53, SITE) == 0);
+    expect("a site at 21", forest_check(site_53, SITE_53, LENT) == refusal(8, 0));
+    expect_numbers("loads at 21", forest_loads(site_53, SITE_53, LENT, numbers, 4), refusal(8, 0), judged, 0);
+    expect_numbers("a level at 21", forest_level(site_53, SITE_53, LENT, numbers, 2), refusal(8, 0), judged, 0);
+    expect_numbers("a judgement at 21", forest_judge(site_53, SITE_53, LENT, numbers, 8), refusal(8, 0), judged, 0);
+    expect_numbers("a year at 21", forest_sample(site_53, SITE_53, LENT, months, MONTHS, numbers, 10), refusal(8, 0), judged,
+                   0);
+    expect("50 bytes, at no temperature", forest_check(site_53, SITE, LENT) == 0);
+
+    overseas_calls(judged);
 
     printf("%u passed, %u failed\n", passed, failed);
     return failed > 0;

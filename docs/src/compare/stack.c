@@ -1,6 +1,7 @@
 /*
  * Measures the stack that each call of forest.h takes. A call runs on a stack of its own, painted before, with inputs
- * that lead deepest: the greatest values of either kind, a refusal, a buffer too short, and nothing, by null pointers.
+ * that lead deepest: the greatest values of each kind, a refusal, a buffer too short, and nothing, by null pointers; and with a
+ * full species list, a bad one and none.
  */
 #include "forest.h"
 
@@ -8,25 +9,36 @@
 #include <string.h>
 #include <ucontext.h>
 
-enum { PAINT = 0xA5, RECORD = 100, FULL = 500 * RECORD, TEXT = 64000, SITE = 51, MONTHS = 204, INPUTS = 5 };
-/* Kind 52 has no field 10, and no temperature byte. */
-enum { RECORD_52 = RECORD - 4, FULL_52 = 500 * RECORD_52, SITE_52 = SITE - 1 };
+enum { PAINT = 0xA5, RECORD = 104, FULL = 500 * RECORD, TEXT = 64000, SITE = 55, MONTHS = 204, INPUTS = 6, LISTS = 3 };
+/* Kinds 52 and 53 have four bytes to an entry, and kind 52 has no field 10, and no temperature byte. */
+enum { RECORD_53 = RECORD - 4, FULL_53 = 500 * RECORD_53, SITE_53 = SITE - 4 };
+enum { RECORD_52 = RECORD_53 - 4, FULL_52 = 500 * RECORD_52, SITE_52 = SITE_53 - 1 };
+enum { FIRST = 256, LAST = 1023, ENTRY = 10, LIST = (LAST - FIRST + 1) * ENTRY };
 
 #define NAME 'Z', 'Z', 'Z', 'Z', 'Z', 'Z', 'Z', 'Z'
 #define STAND 5, 25, 0x4E, 0x20, 6, 25, 0x4E, 0x20, 7, 25, 0x4E, 0x20, 8, 25, 0x4E, 0x20
+/* Species 256, 261, 1022 and 1023. */
+#define LISTED 1, 0, 25, 0x4E, 0x20, 1, 5, 25, 0x4E, 0x20, 3, 0xFE, 25, 0x4E, 0x20, 3, 0xFF, 25, 0x4E, 0x20
+#define FIELDS_01_TO_06                                                                                   \
+    0x01, 0, 8, NAME, 0x02, 0, 1, 4, 0x03, 0, 2, 100, 0, 0x04, 0, 1, 200, 0x05, 0, 1, 5, 0x06, 0, 2, 0x0B, \
+        0xB8
+#define FIELDS_08_TO_0F                                                                                   \
+    0x08, 0, 2, 0x01, 0xF4, 0x09, 0, 1, 85, 0x0A, 0, 2, 0x13, 0x88, 0x0B, 0, 2, 0x4E, 0x20, 0x0C, 0, 2,    \
+        0x27, 0x10, 0x0D, 0, 2, 0x13, 0x88, 0x0E, 0, 2, 0x03, 0xE8, 0x0F, 0, 4, 0xFF, 0xFF, 0xFF, 0xFF
 
 static const uint8_t record[RECORD] = {
-    0x53, 0, 97, 0x01, 0, 8, NAME, 0x02, 0, 1, 4, 0x03, 0, 2, 100, 0, 0x04, 0, 1, 200, 0x05, 0, 1, 5,
-    0x06, 0, 2, 0x0B, 0xB8, 0x07, 0, 16, STAND, 0x08, 0, 2, 0x01, 0xF4, 0x09, 0, 1, 85,
-    0x0A, 0, 2, 0x13, 0x88, 0x0B, 0, 2, 0x4E, 0x20, 0x0C, 0, 2, 0x27, 0x10, 0x0D, 0, 2, 0x13, 0x88,
-    0x0E, 0, 2, 0x03, 0xE8, 0x0F, 0, 4, 0xFF, 0xFF, 0xFF, 0xFF, 0x10, 0, 1, 25,
+    0x54, 0, 101, FIELDS_01_TO_06, 0x07, 0, 20, LISTED, FIELDS_08_TO_0F, 0x10, 0, 1, 25,
 };
+static const uint8_t record_53[RECORD_53] = {
+    0x53, 0, 97, FIELDS_01_TO_06, 0x07, 0, 16, STAND, FIELDS_08_TO_0F, 0x10, 0, 1, 25,
+};
+/* Species 261, 518, 775 and 776 as kind 54. */
 static const uint8_t site[SITE] = {
     NAME, 8, 4, 100, 0, 200, 5, 0x0B, 0xB8, STAND, 4, 0x01, 0xF4, 85,
-    0x13, 0x88, 0x4E, 0x20, 0x27, 0x10, 0x13, 0x88, 0x03, 0xE8, 0xFF, 0xFF, 0xFF, 0xFF, 25,
+    0x13, 0x88, 0x4E, 0x20, 0x27, 0x10, 0x13, 0x88, 0x03, 0xE8, 0xFF, 0xFF, 0xFF, 0xFF, 25, 1, 2, 3, 3,
 };
 static const uint8_t bad_site[SITE], months[MONTHS], bad_months[MONTHS] = {0xFF};
-static uint8_t file[FULL + 1], file_52[FULL_52], text[TEXT];
+static uint8_t file[FULL + 1], file_53[FULL_53], file_52[FULL_52], full_list[LIST], text[TEXT];
 static uint64_t numbers[10];
 
 struct input {
@@ -34,31 +46,40 @@ struct input {
     size_t length, room;
 };
 static const struct input files[INPUTS] = {
-    {file, FULL, TEXT}, {file_52, FULL_52, TEXT}, {file, FULL + 1, TEXT}, {file, FULL, 0}, {NULL, 0, 0},
+    {file, FULL, TEXT}, {file_53, FULL_53, TEXT}, {file_52, FULL_52, TEXT},
+    {file, FULL + 1, TEXT}, {file, FULL, 0}, {NULL, 0, 0},
 };
 static const struct input records[INPUTS] = {
-    {file, RECORD, TEXT}, {file_52, RECORD_52, TEXT}, {file, RECORD + 1, TEXT}, {file, RECORD, 0}, {NULL, 0, 0},
+    {file, RECORD, TEXT}, {file_53, RECORD_53, TEXT}, {file_52, RECORD_52, TEXT},
+    {file, RECORD + 1, TEXT}, {file, RECORD, 0}, {NULL, 0, 0},
 };
 static const struct input sites[INPUTS] = {
-    {site, SITE, 10}, {site, SITE_52, 10}, {bad_site, SITE, 10}, {site, SITE, 0}, {NULL, 0, 0},
+    {site, SITE, 10}, {site, SITE_53, 10}, {site, SITE_52, 10}, {bad_site, SITE, 10}, {site, SITE, 0}, {NULL, 0, 0},
 };
+struct species {
+    const uint8_t *bytes;
+    size_t length;
+};
+static const struct species lists[LISTS] = {{full_list, LIST}, {full_list, LIST - 1}, {NULL, 0}};
 
 static struct input in;
+static struct species lent;
 static uint8_t *bytes_out(void) { return in.room ? text : NULL; }
 static uint64_t *numbers_out(void) { return in.room ? numbers : NULL; }
 
-static void list(void) { forest_list(in.bytes, in.length, bytes_out(), in.room); }
-static void pages(void) { forest_pages(in.bytes, in.length, bytes_out(), in.room); }
-static void report(void) { forest_report(in.bytes, in.length, bytes_out(), in.room); }
-static void rewrite(void) { forest_rewrite(in.bytes, in.length, bytes_out(), in.room); }
-static void check(void) { forest_check(in.bytes, in.length); }
-static void loads(void) { forest_loads(in.bytes, in.length, numbers_out(), in.room); }
-static void level(void) { forest_level(in.bytes, in.length, numbers_out(), in.room); }
-static void judge(void) { forest_judge(in.bytes, in.length, numbers_out(), in.room); }
+#define LENT lent.bytes, lent.length
+static void list(void) { forest_list(in.bytes, in.length, LENT, bytes_out(), in.room); }
+static void pages(void) { forest_pages(in.bytes, in.length, LENT, bytes_out(), in.room); }
+static void report(void) { forest_report(in.bytes, in.length, LENT, bytes_out(), in.room); }
+static void rewrite(void) { forest_rewrite(in.bytes, in.length, LENT, bytes_out(), in.room); }
+static void check(void) { forest_check(in.bytes, in.length, LENT); }
+static void loads(void) { forest_loads(in.bytes, in.length, LENT, numbers_out(), in.room); }
+static void level(void) { forest_level(in.bytes, in.length, LENT, numbers_out(), in.room); }
+static void judge(void) { forest_judge(in.bytes, in.length, LENT, numbers_out(), in.room); }
 static void sample(void) {
-    forest_sample(in.bytes, in.length, months, MONTHS, numbers_out(), in.room);
-    forest_sample(in.bytes, in.length, bad_months, MONTHS, numbers_out(), in.room);
-    forest_sample(in.bytes, in.length, NULL, 0, numbers_out(), in.room);
+    forest_sample(in.bytes, in.length, LENT, months, MONTHS, numbers_out(), in.room);
+    forest_sample(in.bytes, in.length, LENT, bad_months, MONTHS, numbers_out(), in.room);
+    forest_sample(in.bytes, in.length, LENT, NULL, 0, numbers_out(), in.room);
 }
 
 /* How many bytes of a fresh stack a call has touched. */
@@ -80,8 +101,9 @@ static size_t stack_of(void (*call)(void)) {
 
 static void measure(const char *name, void (*call)(void), const struct input inputs[INPUTS]) {
     size_t most = 0;
-    for (int i = 0; i < INPUTS; i++) {
-        in = inputs[i];
+    for (int i = 0; i < INPUTS * LISTS; i++) {
+        in = inputs[i / LISTS];
+        lent = lists[i % LISTS];
         size_t took = stack_of(call);
         if (took > most)
             most = took;
@@ -92,9 +114,16 @@ static void measure(const char *name, void (*call)(void), const struct input inp
 int main(void) {
     for (size_t at = 0; at < FULL; at += RECORD)
         memcpy(file + at, record, RECORD);
+    for (size_t at = 0; at < FULL_53; at += RECORD_53)
+        memcpy(file_53 + at, record_53, RECORD_53);
     for (size_t at = 0; at < FULL_52; at += RECORD_52) {
-        memcpy(file_52 + at, record, RECORD_52);
+        memcpy(file_52 + at, record_53, RECORD_52);
         file_52[at] = 0x52, file_52[at + 2] = RECORD_52 - 3;
+    }
+    memset(full_list, 0xFF, LIST);
+    for (size_t number = FIRST; number <= LAST; number++) {
+        uint8_t *entry = full_list + (number - FIRST) * ENTRY;
+        entry[0] = number >> 8, entry[1] = number & 0xFF;
     }
     measure("forest_list", list, files);
     measure("forest_pages", pages, files);

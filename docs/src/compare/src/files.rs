@@ -1,8 +1,8 @@
-//! Records and files, valid and damaged.
+//! Records and files, valid and damaged. The list is that which holds their species.
 
 use crate::random::Random;
-use crate::sites;
-use forest::Kind::{Tag52, Tag53};
+use crate::sites::{self, KINDS};
+use forest::Kind::{Tag52, Tag53, Tag54};
 use forest::{Kind, Site};
 
 /// A field whose length need not be that of its value.
@@ -33,8 +33,9 @@ fn fields(site: &Site) -> Vec<Field> {
     let two = |number: u16| number.to_be_bytes().to_vec();
     let stand = &site.stand[..usize::from(site.entries)];
     let entries = stand.iter().flat_map(|entry| {
-        let [high, low] = entry.growth.to_be_bytes();
-        [entry.species, entry.share, high, low]
+        let [species, growth] = [entry.species, entry.growth].map(u16::to_be_bytes);
+        let bytes = [species[0], species[1], entry.share, growth[0], growth[1]];
+        bytes.into_iter().skip(usize::from(site.kind != Tag54))
     });
     let mut values = vec![
         site.name[..usize::from(site.name_length)].to_vec(),
@@ -53,7 +54,7 @@ fn fields(site: &Site) -> Vec<Field> {
         two(site.leachate_nitrogen),
         [two(site.sulphur), two(site.nitrogen)].concat(),
     ];
-    if site.kind == Tag53 {
+    if site.kind != Tag52 {
         values.push(vec![site.temperature]);
     }
     (0x01..)
@@ -77,27 +78,36 @@ pub fn record_of(site: &Site) -> Vec<u8> {
     assemble(site.kind, &fields(site))
 }
 
-pub fn good_record(random: &mut Random) -> Vec<u8> {
-    record_of(&sites::good(random))
+pub fn good_record(random: &mut Random, list: &[u8]) -> Vec<u8> {
+    record_of(&sites::good(random, list))
 }
 
-/// Records of one kind or of both.
-pub fn good_records(random: &mut Random, count: usize) -> Vec<u8> {
-    let kinds = random.pick(&[&[Tag52][..], &[Tag53], &[Tag52, Tag53], &[Tag52, Tag53]]);
+/// Records of one kind or of several.
+pub fn good_records(random: &mut Random, count: usize, list: &[u8]) -> Vec<u8> {
+    let kinds = random.pick(&[
+        &[Tag52][..],
+        &[Tag53],
+        &[Tag54],
+        &[Tag54],
+        &[Tag52, Tag53],
+        &[Tag52, Tag54],
+        &[Tag53, Tag54],
+        &KINDS,
+    ]);
     let mut record = || {
         let (kind, entries) = (random.pick(kinds), random.between(1, 4) as u8);
-        record_of(&sites::good_of(random, kind, entries))
+        record_of(&sites::good_of(random, kind, entries, list))
     };
     (0..count).flat_map(|_| record()).collect()
 }
 
 /// A record damaged in its values, its fields, its outer tag or its bytes.
-fn damaged_record(random: &mut Random) -> Vec<u8> {
-    let mut site = sites::good(random);
+fn damaged_record(random: &mut Random, list: &[u8]) -> Vec<u8> {
+    let mut site = sites::good(random, list);
     let places = random.pick(&[1, 1, 1, 2, 3]);
     match random.below(9) {
         0..=2 => {
-            (0..places).for_each(|_| sites::spoil_value(random, &mut site));
+            (0..places).for_each(|_| sites::spoil_value(random, &mut site, list));
             record_of(&site)
         }
         3..=5 => {
@@ -106,11 +116,10 @@ fn damaged_record(random: &mut Random) -> Vec<u8> {
             assemble(site.kind, &fields)
         }
         6 => cut_within(random, &record_of(&site)),
-        // That of the other kind, or the one before or after both.
+        // That of another kind, or the one before or after all.
         7 => {
-            let other = site.kind as u8 ^ 1;
             let mut record = record_of(&site);
-            record[0] = random.pick(&[other, other, 0x51, 0x54]);
+            record[0] = random.pick(&[0x51, 0x52, 0x53, 0x54, 0x55]);
             record
         }
         _ => {
@@ -151,7 +160,7 @@ fn damage_fields(random: &mut Random, fields: &mut Vec<Field>) {
         }
         // A longer or shorter value, its length in keeping.
         4 => {
-            let length = random.pick(&[0, 1, 2, 3, 4, 5, 8, 9, 12, 16, 17, 20, 24]);
+            let length = random.pick(&[0, 1, 2, 3, 4, 5, 8, 9, 10, 12, 15, 16, 17, 20, 24, 25]);
             field.value.resize(length, b'0');
             *field = Field::new(field.tag, field.value.clone());
         }
@@ -181,8 +190,14 @@ fn damage_fields(random: &mut Random, fields: &mut Vec<Field>) {
         10 => fields.truncate(at),
         // Stands of no or too many entries, names of no or too many bytes.
         _ => {
-            let (index, length) =
-                random.pick(&[(0, 0), (0, 9), (0, 100), (6, 0), (6, 6), (6, 20), (6, 120)]);
+            let (index, length) = if random.one_in(3) {
+                (0, random.pick(&[0, 9, 100]))
+            } else {
+                (
+                    6,
+                    random.pick(&[0, 4, 5, 6, 8, 10, 12, 15, 16, 20, 25, 120]),
+                )
+            };
             if let Some(field) = fields.get_mut(index) {
                 field.value.resize(length, b'A');
                 *field = Field::new(field.tag, field.value.clone());
@@ -208,7 +223,7 @@ fn damage_bytes(random: &mut Random, bytes: &mut Vec<u8>) {
     }
     let at = random.below(bytes.len());
     match random.below(8) {
-        0 => bytes[0] = random.pick(&[0, 0x01, 0x51, 0x52, 0x53, 0x54, 0x55, 0x72, 0xFF]),
+        0 => bytes[0] = random.pick(&[0, 0x01, 0x51, 0x52, 0x53, 0x54, 0x55, 0x56, 0x72, 0xFF]),
         1 => bytes[1] = random.pick(&[1, 2, 0x80, 0xFF]),
         2 => bytes[2] = bytes[2].wrapping_add(random.pick(&[1, 2, 3, 4, 255, 254, 253])),
         3 => bytes[2] = random.pick(&[0, 1, 2, 3, 255]),
@@ -220,7 +235,7 @@ fn damage_bytes(random: &mut Random, bytes: &mut Vec<u8>) {
 }
 
 /// A single record, or what is lent in place of one.
-pub fn record(random: &mut Random) -> Vec<u8> {
+pub fn record(random: &mut Random, list: &[u8]) -> Vec<u8> {
     match random.below(32) {
         0 => Vec::new(),
         1 => {
@@ -228,21 +243,21 @@ pub fn record(random: &mut Random) -> Vec<u8> {
             random.bytes(length)
         }
         2 => {
-            let record = good_record(random);
+            let record = good_record(random, list);
             record[..random.below(record.len())].to_vec()
         }
         3 | 4 => {
             let more = random.between(1, 4) as usize;
-            [good_record(random), random.bytes(more)].concat()
+            [good_record(random, list), random.bytes(more)].concat()
         }
-        5 => good_records(random, 2),
-        6..=19 => good_record(random),
-        _ => damaged_record(random),
+        5 => good_records(random, 2, list),
+        6..=19 => good_record(random, list),
+        _ => damaged_record(random, list),
     }
 }
 
 /// A file: valid, with a damaged record, or damaged as a whole.
-pub fn file(random: &mut Random) -> Vec<u8> {
+pub fn file(random: &mut Random, list: &[u8]) -> Vec<u8> {
     let count = random.pick(&[1, 1, 2, 3, 4, 6, 10, 20]);
     match random.below(256) {
         0..=3 => Vec::new(),
@@ -250,41 +265,41 @@ pub fn file(random: &mut Random) -> Vec<u8> {
             let length = random.between(1, 300) as usize;
             random.bytes(length)
         }
-        8 => long_file(random),
-        9 => some_pages(random),
+        8 => long_file(random, list),
+        9 => some_pages(random, list),
         10..=28 => {
-            let file = good_records(random, count);
+            let file = good_records(random, count, list);
             file[..random.below(file.len())].to_vec()
         }
         29..=44 => {
             let more = random.between(1, 4) as usize;
-            [good_records(random, count), random.bytes(more)].concat()
+            [good_records(random, count, list), random.bytes(more)].concat()
         }
         45..=60 => {
-            let mut file = good_records(random, count);
+            let mut file = good_records(random, count, list);
             damage_bytes(random, &mut file);
             file
         }
         61..=150 => {
             let at = random.below(count);
-            let mut file = good_records(random, at);
-            file.extend(damaged_record(random));
-            file.extend(good_records(random, count - at - 1));
+            let mut file = good_records(random, at, list);
+            file.extend(damaged_record(random, list));
+            file.extend(good_records(random, count - at - 1, list));
             file
         }
-        _ => good_records(random, count),
+        _ => good_records(random, count, list),
     }
 }
 
 /// A file of about 500 records, sometimes with bytes after it or a bit changed.
-pub fn long_file(random: &mut Random) -> Vec<u8> {
+pub fn long_file(random: &mut Random, list: &[u8]) -> Vec<u8> {
     let records = match random.below(8) {
         0 => 499,
         1 | 2 => 501,
         3 => random.between(480, 520) as usize,
         _ => 500,
     };
-    let mut file = good_records(random, records);
+    let mut file = good_records(random, records, list);
     match random.below(6) {
         0 => {
             let more = random.between(1, 3) as usize;
@@ -300,41 +315,41 @@ pub fn long_file(random: &mut Random) -> Vec<u8> {
 }
 
 /// A file of one to three pages, sometimes with a damaged record at its end.
-fn some_pages(random: &mut Random) -> Vec<u8> {
+fn some_pages(random: &mut Random, list: &[u8]) -> Vec<u8> {
     let records = random.between(50, 130) as usize;
-    let mut file = good_records(random, records);
+    let mut file = good_records(random, records, list);
     if random.one_in(4) {
-        file.extend(damaged_record(random));
+        file.extend(damaged_record(random, list));
     }
     file
 }
 
 /// Files at the borders of 500 records and of the program's buffers, and longer ones.
-pub fn border_files(random: &mut Random) -> Vec<Vec<u8>> {
+pub fn border_files(random: &mut Random, list: &[u8]) -> Vec<Vec<u8>> {
     // Two values of 255 bytes: a whole record's fields with bytes after them, and a name too long.
-    let record = good_record(random);
+    let record = good_record(random, list);
     let mut whole = record[3..].to_vec();
     whole.resize(255, 0x10);
     let whole = outer(record[0], whole);
-    let long_name = outer(0x53, Field::new(0x01, vec![b'A'; 252]).bytes());
+    let long_name = outer(0x54, Field::new(0x01, vec![b'A'; 252]).bytes());
     vec![
-        good_records(random, 500),
-        good_records(random, 501),
-        longest_records(random, 500),
-        longest_records(random, 501),
-        [&longest_records(random, 500)[..], &[0x52]].concat(),
-        [&longest_records(random, 500)[..], &[0x53]].concat(),
-        [&longest_records(random, 499)[..], &long_name].concat(),
-        [&longest_records(random, 499)[..], &whole].concat(),
-        [&longest_records(random, 499)[..], &whole[..257]].concat(),
-        good_records(random, 1600),
-        [good_records(random, 500), random.bytes(150_000)].concat(),
-        [good_records(random, 3), random.bytes(150_000)].concat(),
+        good_records(random, 500, list),
+        good_records(random, 501, list),
+        longest_records(random, 500, list),
+        longest_records(random, 501, list),
+        [&longest_records(random, 500, list)[..], &[0x52]].concat(),
+        [&longest_records(random, 500, list)[..], &[0x54]].concat(),
+        [&longest_records(random, 499, list)[..], &long_name].concat(),
+        [&longest_records(random, 499, list)[..], &whole].concat(),
+        [&longest_records(random, 499, list)[..], &whole[..257]].concat(),
+        good_records(random, 1600, list),
+        [good_records(random, 500, list), random.bytes(150_000)].concat(),
+        [good_records(random, 3, list), random.bytes(150_000)].concat(),
         vec![0x52; 129_000],
         vec![0; 129_001],
         vec![0x52; 400_000],
-        vec![0x53; 129_000],
-        vec![0x53; 400_000],
+        vec![0x54; 129_000],
+        vec![0x54; 400_000],
     ]
 }
 
@@ -342,21 +357,21 @@ pub fn border_files(random: &mut Random) -> Vec<Vec<u8>> {
 pub const PAGE_BORDERS: [usize; 9] = [1, 58, 59, 60, 118, 119, 472, 473, 500];
 
 /// Files of so many records, and files with a fault after one page and after two.
-pub fn page_border_files(random: &mut Random) -> Vec<Vec<u8>> {
+pub fn page_border_files(random: &mut Random, list: &[u8]) -> Vec<Vec<u8>> {
     let mut files: Vec<_> = PAGE_BORDERS
         .iter()
-        .map(|&count| good_records(random, count))
+        .map(|&count| good_records(random, count, list))
         .collect();
-    files.push([&longest_records(random, 59)[..], &[0x52]].concat());
-    files.push([longest_records(random, 118), outer(0x53, vec![0x01])].concat());
+    files.push([&longest_records(random, 59, list)[..], &[0x52]].concat());
+    files.push([longest_records(random, 118, list), outer(0x54, vec![0x01])].concat());
     files
 }
 
-/// Valid records of 100 bytes each: of kind 53, a name of eight, a stand of four.
-fn longest_records(random: &mut Random, count: usize) -> Vec<u8> {
-    let records = std::iter::repeat_with(|| record_of(&sites::good_of(random, Tag53, 4)));
+/// Valid records of 104 bytes each: of kind 54, a name of eight, a stand of four.
+fn longest_records(random: &mut Random, count: usize, list: &[u8]) -> Vec<u8> {
+    let records = std::iter::repeat_with(|| record_of(&sites::good_of(random, Tag54, 4, list)));
     records
-        .filter(|record| record.len() == 100)
+        .filter(|record| record.len() == 104)
         .take(count)
         .flatten()
         .collect()

@@ -2,8 +2,8 @@
 
 use forest::{Judgement, Refusal, Sampled, Site, Verdict};
 
-/// A call: its inputs, a lent buffer of elements `T`, the result.
-pub struct Call<T, const INPUTS: usize = 1> {
+/// A call: its inputs, the second of them the species list, a lent buffer of elements `T`, the result.
+pub struct Call<T, const INPUTS: usize = 2> {
     pub name: &'static str,
     pub library: fn([&[u8]; INPUTS], &mut [T]) -> u64,
     pub reference: fn([&[u8]; INPUTS], &mut [T]) -> u64,
@@ -11,52 +11,91 @@ pub struct Call<T, const INPUTS: usize = 1> {
 
 pub const LIST: Call<u8> = Call {
     name: "forest_list",
-    library: |[file], out| unsafe {
-        c::forest_list(file.as_ptr(), file.len(), out.as_mut_ptr(), out.len())
+    library: |[file, list], out| unsafe {
+        c::forest_list(
+            file.as_ptr(),
+            file.len(),
+            list.as_ptr(),
+            list.len(),
+            out.as_mut_ptr(),
+            out.len(),
+        )
     },
-    reference: |[file], out| result(forest::list(file, out)),
+    reference: |[file, list], out| result(forest::list(file, list, out)),
 };
 
 pub const PAGES: Call<u8> = Call {
     name: "forest_pages",
-    library: |[file], out| unsafe {
-        c::forest_pages(file.as_ptr(), file.len(), out.as_mut_ptr(), out.len())
+    library: |[file, list], out| unsafe {
+        c::forest_pages(
+            file.as_ptr(),
+            file.len(),
+            list.as_ptr(),
+            list.len(),
+            out.as_mut_ptr(),
+            out.len(),
+        )
     },
-    reference: |[file], out| result(forest::pages(file, out)),
+    reference: |[file, list], out| result(forest::pages(file, list, out)),
 };
 
 pub const REPORT: Call<u8> = Call {
     name: "forest_report",
-    library: |[file], out| unsafe {
-        c::forest_report(file.as_ptr(), file.len(), out.as_mut_ptr(), out.len())
+    library: |[file, list], out| unsafe {
+        c::forest_report(
+            file.as_ptr(),
+            file.len(),
+            list.as_ptr(),
+            list.len(),
+            out.as_mut_ptr(),
+            out.len(),
+        )
     },
-    reference: |[file], out| result(forest::report(file, out)),
+    reference: |[file, list], out| result(forest::report(file, list, out)),
 };
 
 pub const REWRITE: Call<u8> = Call {
     name: "forest_rewrite",
-    library: |[record], out| unsafe {
-        c::forest_rewrite(record.as_ptr(), record.len(), out.as_mut_ptr(), out.len())
+    library: |[record, list], out| unsafe {
+        c::forest_rewrite(
+            record.as_ptr(),
+            record.len(),
+            list.as_ptr(),
+            list.len(),
+            out.as_mut_ptr(),
+            out.len(),
+        )
     },
-    reference: |[record], out| result(forest::rewrite(record, out)),
+    reference: |[record, list], out| result(forest::rewrite(record, list, out)),
 };
 
 /// The check takes no buffer.
 pub const CHECK: Call<u64> = Call {
     name: "forest_check",
-    library: |[site], _| unsafe { c::forest_check(site.as_ptr(), site.len()) },
-    reference: |[site], _| {
-        let checked = Site::from_bytes(site).and_then(|site| forest::check(&site));
+    library: |[site, list], _| unsafe {
+        c::forest_check(site.as_ptr(), site.len(), list.as_ptr(), list.len())
+    },
+    reference: |[site, list], _| {
+        let checked = site_in(site, list).and_then(|site| forest::check(&site, list));
         result(checked.map(|()| 0))
     },
 };
 
 pub const LOADS: Call<u64> = Call {
     name: "forest_loads",
-    library: |[site], out| unsafe {
-        c::forest_loads(site.as_ptr(), site.len(), out.as_mut_ptr(), out.len())
+    library: |[site, list], out| unsafe {
+        c::forest_loads(
+            site.as_ptr(),
+            site.len(),
+            list.as_ptr(),
+            list.len(),
+            out.as_mut_ptr(),
+            out.len(),
+        )
     },
-    reference: |[site], out| match Site::from_bytes(site).and_then(|site| forest::loads(&site)) {
+    reference: |[site, list], out| match site_in(site, list)
+        .and_then(|site| forest::loads(&site, list))
+    {
         Ok(loads) => enter(&[loads.max_s, loads.min_n, loads.max_n, loads.nut_n], out),
         Err(refusal) => refused(refusal),
     },
@@ -64,10 +103,19 @@ pub const LOADS: Call<u64> = Call {
 
 pub const LEVEL: Call<u64> = Call {
     name: "forest_level",
-    library: |[site], out| unsafe {
-        c::forest_level(site.as_ptr(), site.len(), out.as_mut_ptr(), out.len())
+    library: |[site, list], out| unsafe {
+        c::forest_level(
+            site.as_ptr(),
+            site.len(),
+            list.as_ptr(),
+            list.len(),
+            out.as_mut_ptr(),
+            out.len(),
+        )
     },
-    reference: |[site], out| match Site::from_bytes(site).and_then(|site| forest::level(&site)) {
+    reference: |[site, list], out| match site_in(site, list)
+        .and_then(|site| forest::level(&site, list))
+    {
         Ok(found) => enter(&[found.level, found.compared], out),
         Err(refusal) => refused(refusal),
     },
@@ -75,29 +123,40 @@ pub const LEVEL: Call<u64> = Call {
 
 pub const JUDGE: Call<u64> = Call {
     name: "forest_judge",
-    library: |[site], out| unsafe {
-        c::forest_judge(site.as_ptr(), site.len(), out.as_mut_ptr(), out.len())
+    library: |[site, list], out| unsafe {
+        c::forest_judge(
+            site.as_ptr(),
+            site.len(),
+            list.as_ptr(),
+            list.len(),
+            out.as_mut_ptr(),
+            out.len(),
+        )
     },
-    reference: |[site], out| match Site::from_bytes(site).and_then(|site| forest::judge(&site)) {
+    reference: |[site, list], out| match site_in(site, list)
+        .and_then(|site| forest::judge(&site, list))
+    {
         Ok(judgement) => enter(&judged(&judgement), out),
         Err(refusal) => refused(refusal),
     },
 };
 
-/// A site value, and the twelve months of the rain sampler.
-pub const SAMPLE: Call<u64, 2> = Call {
+/// A site value with its list, and the twelve months of the rain sampler.
+pub const SAMPLE: Call<u64, 3> = Call {
     name: "forest_sample",
-    library: |[site, months], out| unsafe {
+    library: |[site, list, months], out| unsafe {
         c::forest_sample(
             site.as_ptr(),
             site.len(),
+            list.as_ptr(),
+            list.len(),
             months.as_ptr(),
             months.len(),
             out.as_mut_ptr(),
             out.len(),
         )
     },
-    reference: |[site, months], out| match sample(site, months) {
+    reference: |[site, list, months], out| match sample(site, list, months) {
         Ok(sampled) => {
             let pair = [sampled.sulphur, sampled.nitrogen].map(i64::from);
             enter(&[&pair[..], &judged(&sampled.judgement)].concat(), out)
@@ -106,11 +165,17 @@ pub const SAMPLE: Call<u64, 2> = Call {
     },
 };
 
+/// The list's check comes before the length of a site value.
+fn site_in(site: &[u8], list: &[u8]) -> Result<Site, Refusal> {
+    forest::check_list(list)?;
+    Site::from_bytes(site)
+}
+
 /// The site's checks come before the length of the months.
-fn sample(site: &[u8], months: &[u8]) -> Result<Sampled, Refusal> {
-    let site = Site::from_bytes(site)?;
-    forest::check(&site)?;
-    forest::sample(&site, &forest::months_from_bytes(months)?)
+fn sample(site: &[u8], list: &[u8], months: &[u8]) -> Result<Sampled, Refusal> {
+    let site = site_in(site, list)?;
+    forest::check(&site, list)?;
+    forest::sample(&site, list, &forest::months_from_bytes(months)?)
 }
 
 /// The eight numbers of a judgement.
@@ -121,26 +186,73 @@ fn judged(judgement: &Judgement) -> Vec<i64> {
 
 mod c {
     extern "C" {
-        pub fn forest_list(file: *const u8, file_len: usize, out: *mut u8, out_len: usize) -> u64;
-        pub fn forest_pages(file: *const u8, file_len: usize, out: *mut u8, out_len: usize) -> u64;
-        pub fn forest_report(file: *const u8, file_len: usize, out: *mut u8, out_len: usize)
-            -> u64;
-        pub fn forest_rewrite(
-            record: *const u8,
-            record_len: usize,
+        pub fn forest_list(
+            file: *const u8,
+            file_len: usize,
+            list: *const u8,
+            list_len: usize,
             out: *mut u8,
             out_len: usize,
         ) -> u64;
-        pub fn forest_check(site: *const u8, site_len: usize) -> u64;
-        pub fn forest_loads(site: *const u8, site_len: usize, out: *mut u64, out_len: usize)
-            -> u64;
-        pub fn forest_level(site: *const u8, site_len: usize, out: *mut u64, out_len: usize)
-            -> u64;
-        pub fn forest_judge(site: *const u8, site_len: usize, out: *mut u64, out_len: usize)
-            -> u64;
+        pub fn forest_pages(
+            file: *const u8,
+            file_len: usize,
+            list: *const u8,
+            list_len: usize,
+            out: *mut u8,
+            out_len: usize,
+        ) -> u64;
+        pub fn forest_report(
+            file: *const u8,
+            file_len: usize,
+            list: *const u8,
+            list_len: usize,
+            out: *mut u8,
+            out_len: usize,
+        ) -> u64;
+        pub fn forest_rewrite(
+            record: *const u8,
+            record_len: usize,
+            list: *const u8,
+            list_len: usize,
+            out: *mut u8,
+            out_len: usize,
+        ) -> u64;
+        pub fn forest_check(
+            site: *const u8,
+            site_len: usize,
+            list: *const u8,
+            list_len: usize,
+        ) -> u64;
+        pub fn forest_loads(
+            site: *const u8,
+            site_len: usize,
+            list: *const u8,
+            list_len: usize,
+            out: *mut u64,
+            out_len: usize,
+        ) -> u64;
+        pub fn forest_level(
+            site: *const u8,
+            site_len: usize,
+            list: *const u8,
+            list_len: usize,
+            out: *mut u64,
+            out_len: usize,
+        ) -> u64;
+        pub fn forest_judge(
+            site: *const u8,
+            site_len: usize,
+            list: *const u8,
+            list_len: usize,
+            out: *mut u64,
+            out_len: usize,
+        ) -> u64;
         pub fn forest_sample(
             site: *const u8,
             site_len: usize,
+            list: *const u8,
+            list_len: usize,
             months: *const u8,
             months_len: usize,
             out: *mut u64,

@@ -2,6 +2,7 @@
 
 pub mod files;
 pub mod interface;
+pub mod lists;
 pub mod months;
 pub mod random;
 pub mod sites;

@@ -22,8 +22,8 @@ struct Month {
 }
 
 /// A site value, and the months in bytes. Often they give a pair at a border of the site, which itself has another one.
-pub fn sampled_site(random: &mut Random) -> (Vec<u8>, Vec<u8>) {
-    let mut value = sites::value(random);
+pub fn sampled_site(random: &mut Random, list: &[u8]) -> (Vec<u8>, Vec<u8>) {
+    let mut value = sites::value(random, list);
     let mut months = match Site::from_bytes(&value) {
         Ok(site) if random.one_in(2) => {
             value[46..50].copy_from_slice(&random.bytes(4));

@@ -1,7 +1,8 @@
 //! Site values, good and bad.
 
+use crate::lists;
 use crate::random::Random;
-use forest::{Entry, Kind, Site, Terms};
+use forest::{terms, Entry, Kind, Site};
 
 /// A number in its range, often at or near an end.
 pub(crate) fn ranged(random: &mut Random, low: i64, high: i64) -> i64 {
@@ -15,16 +16,18 @@ pub(crate) fn ranged(random: &mut Random, low: i64, high: i64) -> i64 {
     }
 }
 
-/// A site of either kind that passes the checks, with a pair of any region. What is no part of it holds anything: name
+pub const KINDS: [Kind; 3] = [Kind::Tag52, Kind::Tag53, Kind::Tag54];
+
+/// A site of any kind that passes the checks with a list, with a pair of any region. What is no part of it holds anything: name
 /// bytes, entries, and the temperature of kind 52.
-pub fn good(random: &mut Random) -> Site {
-    let kind = random.pick(&[Kind::Tag52, Kind::Tag53]);
+pub fn good(random: &mut Random, list: &[u8]) -> Site {
+    let kind = random.pick(&[KINDS[0], KINDS[1], KINDS[2], KINDS[2]]);
     let entries = random.between(1, 4) as u8;
-    good_of(random, kind, entries)
+    good_of(random, kind, entries, list)
 }
 
 /// As [`good`], of a kind and with a stand of so many entries.
-pub fn good_of(random: &mut Random, kind: Kind, entries: u8) -> Site {
+pub fn good_of(random: &mut Random, kind: Kind, entries: u8, list: &[u8]) -> Site {
     let name_length = random.between(1, 8) as u8;
     let clay = ranged(random, 0, 100);
     let sand = ranged(random, 0, 100 - clay);
@@ -38,7 +41,7 @@ pub fn good_of(random: &mut Random, kind: Kind, entries: u8) -> Site {
         root_depth: ranged(random, 1, 200) as u8,
         drainage: random.below(6) as u8,
         percolation: ranged(random, 1, 3000) as u16,
-        stand: stand(random, entries),
+        stand: stand(random, kind, entries, list),
         entries,
         immobilisation: ranged(random, 0, 500) as u16,
         available_share: ranged(random, 70, 85) as u8,
@@ -51,10 +54,10 @@ pub fn good_of(random: &mut Random, kind: Kind, entries: u8) -> Site {
         nitrogen: 0,
         temperature: match kind {
             Kind::Tag52 => random.byte(),
-            Kind::Tag53 => ranged(random, 0, 25) as u8,
+            _ => ranged(random, 0, 25) as u8,
         },
     };
-    set_pair(random, &mut site);
+    set_pair(random, &mut site, list);
     site
 }
 
@@ -66,35 +69,67 @@ fn name(random: &mut Random, length: u8) -> [u8; 8] {
     name
 }
 
-fn stand(random: &mut Random, entries: u8) -> [Entry; 4] {
+/// Species of the table and, in kind 54, of the list.
+fn stand(random: &mut Random, kind: Kind, entries: u8, list: &[u8]) -> [Entry; 4] {
     let mut stand = [Entry::default(); 4].map(|_| Entry {
-        species: random.byte(),
+        species: if kind == Kind::Tag54 {
+            random.word() as u16
+        } else {
+            random.byte().into()
+        },
         share: random.byte(),
         growth: random.word() as u16,
     });
-    let (mut species, mut share) = (0, 100);
-    for index in 0..entries {
-        let after = i64::from(entries - index - 1);
-        species = random.between(species, 8 - after);
+    let listed: Vec<u16> = lists::numbers(list).collect();
+    let of_list = if kind == Kind::Tag54 {
+        random.below(listed.len().min(entries.into()) + 1)
+    } else {
+        0
+    };
+    let of_table = usize::from(entries) - of_list;
+    let species = rising(random, of_table, 9).map(|species| species as u16);
+    let species: Vec<u16> = species
+        .chain(rising(random, of_list, listed.len()).map(|at| listed[at]))
+        .collect();
+    let mut share = 100;
+    for (index, species) in species.into_iter().enumerate() {
+        let after = i64::from(entries) - index as i64 - 1;
         let part = if after == 0 {
             share
         } else {
             ranged(random, 1, share - after)
         };
-        stand[usize::from(index)] = Entry {
-            species: species as u8,
+        stand[index] = Entry {
+            species,
             share: part as u8,
             growth: ranged(random, 0, 20000) as u16,
         };
-        species += 1;
         share -= part;
     }
     stand
 }
 
+/// So many of the numbers from 0 to `below` − 1, rising, often the first or the last ones.
+fn rising(random: &mut Random, count: usize, below: usize) -> impl Iterator<Item = usize> {
+    let (mut least, mut room) = (0, below - count);
+    match random.below(8) {
+        0 => room = 0,
+        1 => least = room as i64,
+        _ => {}
+    }
+    let numbers: Vec<usize> = (0..count)
+        .map(|index| {
+            let number = random.between(least, (room + index) as i64);
+            least = number + 1;
+            number as usize
+        })
+        .collect();
+    numbers.into_iter()
+}
+
 /// Sets a pair, often at a border between the acid regions or at a load.
-fn set_pair(random: &mut Random, site: &mut Site) {
-    let terms = Terms::of(site);
+fn set_pair(random: &mut Random, site: &mut Site, list: &[u8]) {
+    let terms = terms(site, list).expect("a good site");
     let loads = terms.loads(site);
     let e = terms.left;
     let nitrogen = match random.below(8) {
@@ -126,9 +161,9 @@ fn set_pair(random: &mut Random, site: &mut Site) {
     site.nitrogen = nitrogen as u16;
 }
 
-/// Takes one value of a site out of its range. Lengths stay as they are; a site with a bad temperature is of kind 53.
-pub fn spoil_value(random: &mut Random, site: &mut Site) {
-    match random.below(23) {
+/// Takes one value of a site out of its range. Lengths stay as they are; a site with a bad temperature is of kind 53 or 54.
+pub fn spoil_value(random: &mut Random, site: &mut Site, list: &[u8]) {
+    match random.below(24) {
         0 => {
             let at = random.below(usize::from(site.name_length.clamp(1, 8)));
             site.name[at] = random.pick(b"@[/:,.`az_ \0\x80\xFF");
@@ -148,7 +183,15 @@ pub fn spoil_value(random: &mut Random, site: &mut Site) {
         3 => site.root_depth = random.pick(&[0, 201, 255]),
         4 => site.drainage = random.pick(&[6, 7, 255]),
         5 => site.percolation = random.pick(&[0, 3001, 65535]),
-        6 => entry(random, site).species = random.pick(&[9, 10, 255]),
+        6 | 23 => {
+            let species = match site.kind {
+                Kind::Tag54 => {
+                    random.pick(&[9, 9, 10, 200, 255, 255, 1024, 1024, 1025, 2048, 65535])
+                }
+                _ => random.pick(&[9, 10, 255]),
+            };
+            entry(random, site).species = species;
+        }
         7 => entry(random, site).share = random.pick(&[0, 101, 255]),
         8 => entry(random, site).growth = random.pick(&[20001, 20002, 65535]),
         9 => site.immobilisation = random.pick(&[501, 502, 65535]),
@@ -159,11 +202,13 @@ pub fn spoil_value(random: &mut Random, site: &mut Site) {
         14 => site.hydrogen_ceiling = random.pick(&[0, 5001, 65535]),
         15 => site.leachate_nitrogen = random.pick(&[0, 1001, 65535]),
         16 => {
-            site.kind = Kind::Tag53;
+            if site.kind == Kind::Tag52 {
+                site.kind = Kind::Tag53;
+            }
             site.temperature = random.pick(&[26, 27, 128, 251, 255]);
         }
-        17..=19 => spoil_species(random, site),
-        _ => spoil_shares(random, site),
+        17..=19 => spoil_species(random, site, list),
+        _ => spoil_shares(random, site, list),
     }
 }
 
@@ -173,9 +218,9 @@ fn entry<'a>(random: &mut Random, site: &'a mut Site) -> &'a mut Entry {
 }
 
 /// Two neighbouring entries of one species, or in falling order.
-fn spoil_species(random: &mut Random, site: &mut Site) {
+fn spoil_species(random: &mut Random, site: &mut Site, list: &[u8]) {
     site.entries = site.entries.clamp(2, 4);
-    site.stand = stand(random, site.entries);
+    site.stand = stand(random, site.kind, site.entries, list);
     let at = random.below(usize::from(site.entries) - 1);
     if random.one_in(2) {
         site.stand[at + 1].species = site.stand[at].species;
@@ -190,10 +235,10 @@ fn spoil_species(random: &mut Random, site: &mut Site) {
 }
 
 /// Shares that add up to nearly 100, or to 100 more than 256.
-fn spoil_shares(random: &mut Random, site: &mut Site) {
+fn spoil_shares(random: &mut Random, site: &mut Site, list: &[u8]) {
     if random.one_in(4) {
         site.entries = 4;
-        site.stand = stand(random, 4);
+        site.stand = stand(random, site.kind, 4, list);
         for (entry, share) in site.stand.iter_mut().zip([100, 100, 100, 56]) {
             entry.share = share;
         }
@@ -203,19 +248,20 @@ fn spoil_shares(random: &mut Random, site: &mut Site) {
     }
 }
 
-/// A site value as its 50 or 51 bytes, or as another number of bytes: often good, else broken in one or more ways.
-pub fn value(random: &mut Random) -> Vec<u8> {
+/// A site value as its 50, 51 or 55 bytes, or as another number of bytes: often good with a list, else broken in one or more
+/// ways.
+pub fn value(random: &mut Random, list: &[u8]) -> Vec<u8> {
     if random.one_in(64) {
-        let length = random.pick(&[50, 51]);
+        let length = random.pick(&[50, 51, 55]);
         return random.bytes(length);
     }
-    let mut site = good(random);
+    let mut site = good(random, list);
     if random.one_in(3) {
         for _ in 0..random.pick(&[1, 1, 1, 2, 4]) {
             match random.below(8) {
                 0 => site.name_length = random.pick(&[0, 9, 10, 255]),
                 1 => site.entries = random.pick(&[0, 5, 6, 255]),
-                _ => spoil_value(random, &mut site),
+                _ => spoil_value(random, &mut site, list),
             }
         }
     }
@@ -225,14 +271,14 @@ pub fn value(random: &mut Random) -> Vec<u8> {
         value[at] = random.byte();
     }
     if random.one_in(64) {
-        // Between 50 and 51 the value is then of the other kind.
-        let length = random.pick(&[0, 1, 49, 50, 51, 52, 53, 100]);
+        // Between 50, 51 and 55 the value is then of another kind.
+        let length = random.pick(&[0, 1, 49, 49, 50, 51, 52, 52, 53, 54, 54, 55, 56, 56, 100]);
         value.resize(length, random.pick(&[0, 13, 25, 26]));
     }
     value
 }
 
-/// The bytes of a site value: 50 of kind 52, 51 of kind 53.
+/// The bytes of a site value: 50 of kind 52, 51 of kind 53, 55 of kind 54.
 pub fn bytes(site: &Site) -> Vec<u8> {
     let mut value = site.name.to_vec();
     value.extend([
@@ -245,7 +291,7 @@ pub fn bytes(site: &Site) -> Vec<u8> {
     ]);
     value.extend(site.percolation.to_be_bytes());
     for entry in site.stand {
-        value.extend([entry.species, entry.share]);
+        value.extend([entry.species as u8, entry.share]);
         value.extend(entry.growth.to_be_bytes());
     }
     value.push(site.entries);
@@ -262,8 +308,11 @@ pub fn bytes(site: &Site) -> Vec<u8> {
     ] {
         value.extend(number.to_be_bytes());
     }
-    if site.kind == Kind::Tag53 {
+    if site.kind != Kind::Tag52 {
         value.push(site.temperature);
+    }
+    if site.kind == Kind::Tag54 {
+        value.extend(site.stand.map(|entry| (entry.species >> 8) as u8));
     }
     value
 }

@@ -1,5 +1,6 @@
 use crate::refusal::Refusal;
-use crate::site::{check, Site};
+use crate::site::{stand_contents, Site};
+use crate::species::StandContents;
 use crate::terms::{up, Loads, Terms};
 
 /// Within the loads, or over them with the acid region and both exceedances.
@@ -52,13 +53,13 @@ impl Judgement {
 }
 
 /// Loads and verdict of a site value, once it passes the checks.
-pub fn judge(site: &Site) -> Result<Judgement, Refusal> {
-    check(site)?;
-    Ok(judge_checked(site))
+pub fn judge(site: &Site, list: &[u8]) -> Result<Judgement, Refusal> {
+    let contents = stand_contents(site, list)?;
+    Ok(judge_checked(site, &contents))
 }
 
-pub(crate) fn judge_checked(site: &Site) -> Judgement {
-    let terms = Terms::of(site);
+pub(crate) fn judge_checked(site: &Site, contents: &StandContents) -> Judgement {
+    let terms = Terms::of(site, contents);
     let loads = terms.loads(site);
     let (region, acid) = acid_exceedance(site, &loads, terms.left);
     let nutrient = (i64::from(site.nitrogen) - loads.nut_n).max(0);

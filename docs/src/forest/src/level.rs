@@ -1,8 +1,8 @@
 //! The search for the hydrogen level: document 02, E4.
 
 use crate::refusal::Refusal;
-use crate::site::{check, Site};
-use crate::terms::Terms;
+use crate::site::Site;
+use crate::terms::{terms, Terms};
 
 /// The greatest allowed level, and how many levels were compared with the aluminium limit to find it.
 #[derive(Clone, Copy, Debug, PartialEq, Eq)]
@@ -12,11 +12,10 @@ pub struct Found {
 }
 
 /// The level of a site value, once it passes the checks.
-pub fn level(site: &Site) -> Result<Found, Refusal> {
-    check(site)?;
+pub fn level(site: &Site, list: &[u8]) -> Result<Found, Refusal> {
     let Terms {
         level, compared, ..
-    } = Terms::of(site);
+    } = terms(site, list)?;
     Ok(Found { level, compared })
 }
 

@@ -1,5 +1,6 @@
 //! Critical loads, exceedances and verdicts of forest sites, as document 01 and E2 of document 02 state them, with the pages of E1,
-//! the rain sampler of E3, the hydrogen search of E4 and the temperature of E5.
+//! the rain sampler of E3, the hydrogen search of E4, the temperature of E5 and the species list of E6. Every call that takes a
+//! file, a record or a site takes the bytes of the list after it.
 //!
 //! Numbers are `i64` throughout, but for those of which t is worked out: the greatest product, Q × K × h³, is 3.75 × 10¹⁸.
 
@@ -11,6 +12,7 @@ mod record;
 mod refusal;
 mod sampler;
 mod site;
+mod species;
 mod temperature;
 mod terms;
 mod whole;
@@ -23,5 +25,6 @@ pub use record::{read_record, rewrite, write_record};
 pub use refusal::{Refusal, Rule};
 pub use sampler::{months_from_bytes, sample, year, Month, Reading, Sampled};
 pub use site::{check, Entry, Kind, Site, EIGHT_DEGREES};
+pub use species::check_list;
 pub use temperature::temperature_factor;
-pub use terms::{aluminium, hydrogen, loads, texture_class, Loads, Terms};
+pub use terms::{aluminium, hydrogen, loads, terms, texture_class, Loads, Terms};

@@ -6,24 +6,24 @@ pub(crate) const MOST_RECORDS: usize = 500;
 pub(crate) const HEADER: &str = "id maxS minN maxN nutN region acidEx nutEx verdict";
 
 /// Writes the listing of a file of records.
-pub fn list(file: &[u8], out: &mut [u8]) -> Result<usize, Refusal> {
-    lend(&listing(file)?, out)
+pub fn list(file: &[u8], list: &[u8], out: &mut [u8]) -> Result<usize, Refusal> {
+    lend(&listing(file, list)?, out)
 }
 
 /// Writes what the program prints for a file: the listing, or the line of its refusal.
-pub fn report(file: &[u8], out: &mut [u8]) -> Result<usize, Refusal> {
-    match listing(file) {
+pub fn report(file: &[u8], list: &[u8], out: &mut [u8]) -> Result<usize, Refusal> {
+    match listing(file, list) {
         Ok(lines) => lend(&lines, out),
         Err(refusal) => lend(format!("{refusal}\n").as_bytes(), out),
     }
 }
 
-fn listing(file: &[u8]) -> Result<Vec<u8>, Refusal> {
+fn listing(file: &[u8], list: &[u8]) -> Result<Vec<u8>, Refusal> {
     let mut lines = Vec::with_capacity(HEADER.len() + 1 + file.len());
     lines.extend_from_slice(HEADER.as_bytes());
     lines.push(b'\n');
-    each_record(file, MOST_RECORDS, |site| {
-        push_line(&mut lines, site.name(), &judge_checked(site))
+    each_record(file, list, MOST_RECORDS, |site, contents| {
+        push_line(&mut lines, site.name(), &judge_checked(site, contents))
     })?;
     Ok(lines)
 }

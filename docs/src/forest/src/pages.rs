@@ -3,6 +3,7 @@ use crate::listing::{HEADER, MOST_RECORDS};
 use crate::record::each_record;
 use crate::refusal::{lend, Refusal};
 use crate::site::Site;
+use crate::species::StandContents;
 use std::fmt::Write;
 
 /// The lines of a page, less its header.
@@ -34,9 +35,11 @@ const COLUMNS: [(Aligned, usize); 9] = [
 ];
 
 /// Writes the pages of a file of records, one after the other.
-pub fn pages(file: &[u8], out: &mut [u8]) -> Result<usize, Refusal> {
+pub fn pages(file: &[u8], list: &[u8], out: &mut [u8]) -> Result<usize, Refusal> {
     let mut sites = Vec::new();
-    each_record(file, MOST_RECORDS, |site| sites.push(site_line(site)))?;
+    each_record(file, list, MOST_RECORDS, |site, contents| {
+        sites.push(site_line(site, contents))
+    })?;
     let header = header_line();
     let page = |sites: &[String]| header.clone() + &sites.concat();
     let pages: String = sites.chunks(SITES_ON_A_PAGE).map(page).collect();
@@ -49,8 +52,8 @@ fn header_line() -> String {
     line(HEADER.split(' ').zip(COLUMNS).map(cut))
 }
 
-fn site_line(site: &Site) -> String {
-    let judgement = judge_checked(site);
+fn site_line(site: &Site, contents: &StandContents) -> String {
+    let judgement = judge_checked(site, contents);
     let name = String::from_utf8_lossy(site.name()).into_owned();
     let numbers = judgement.numbers().map(|number| number.to_string());
     let mark = judgement.mark().to_string();

@@ -1,22 +1,26 @@
 use crate::refusal::{lend, Refusal, Rule};
 use crate::site::{check, check_field, Entry, Kind, Site, EIGHT_DEGREES};
+use crate::species::{SpeciesList, StandContents};
 
 /// Reads a single record: a file of at most one.
-pub fn read_record(input: &[u8]) -> Result<Site, Refusal> {
+pub fn read_record(input: &[u8], list: &[u8]) -> Result<Site, Refusal> {
     let mut read = Site::default();
-    each_record(input, 1, |site| read = *site)?;
+    each_record(input, list, 1, |site, _| read = *site)?;
     Ok(read)
 }
 
 /// Writes the record of a site value, once it passes the checks.
-pub fn write_record(site: &Site, out: &mut [u8]) -> Result<usize, Refusal> {
-    check(site)?;
+pub fn write_record(site: &Site, list: &[u8], out: &mut [u8]) -> Result<usize, Refusal> {
+    check(site, list)?;
     let mut fields = Vec::with_capacity(100);
     let mut field = |tag: u8, value: &[u8]| {
         fields.extend([tag, 0, value.len() as u8]);
         fields.extend(value);
     };
-    let stand: Vec<u8> = site.stand().iter().flat_map(entry_bytes).collect();
+    let stand: Vec<u8> = match site.kind {
+        Kind::Tag54 => site.stand().iter().flat_map(five_bytes).collect(),
+        _ => site.stand().iter().flat_map(four_bytes).collect(),
+    };
     field(0x01, site.name());
     field(0x02, &[site.parent_material]);
     field(0x03, &[site.clay, site.sand]);
@@ -33,7 +37,7 @@ pub fn write_record(site: &Site, out: &mut [u8]) -> Result<usize, Refusal> {
     field(0x0E, &site.leachate_nitrogen.to_be_bytes());
     let [[s0, s1], [n0, n1]] = [site.sulphur, site.nitrogen].map(u16::to_be_bytes);
     field(0x0F, &[s0, s1, n0, n1]);
-    if site.kind == Kind::Tag53 {
+    if site.kind != Kind::Tag52 {
         field(0x10, &[site.temperature]);
     }
 
@@ -42,22 +46,30 @@ pub fn write_record(site: &Site, out: &mut [u8]) -> Result<usize, Refusal> {
     lend(&record, out)
 }
 
-fn entry_bytes(entry: &Entry) -> [u8; 4] {
-    let [high, low] = entry.growth.to_be_bytes();
-    [entry.species, entry.share, high, low]
+fn five_bytes(entry: &Entry) -> [u8; 5] {
+    let [species, growth] = [entry.species, entry.growth].map(u16::to_be_bytes);
+    [species[0], species[1], entry.share, growth[0], growth[1]]
+}
+
+/// Of a species below 256.
+fn four_bytes(entry: &Entry) -> [u8; 4] {
+    let [_, rest @ ..] = five_bytes(entry);
+    rest
 }
 
 /// Reads a single record and writes it again.
-pub fn rewrite(record: &[u8], out: &mut [u8]) -> Result<usize, Refusal> {
-    write_record(&read_record(record)?, out)
+pub fn rewrite(record: &[u8], list: &[u8], out: &mut [u8]) -> Result<usize, Refusal> {
+    write_record(&read_record(record, list)?, list, out)
 }
 
-/// Walks a file of at most `most` records from the left, up to its end or its first fault.
+/// Checks the list, then walks a file of at most `most` records from the left, up to its end or its first fault.
 pub(crate) fn each_record(
     file: &[u8],
+    list: &[u8],
     most: usize,
-    mut take: impl FnMut(&Site),
+    mut take: impl FnMut(&Site, &StandContents),
 ) -> Result<(), Refusal> {
+    let list = SpeciesList::checked(list)?;
     if file.is_empty() {
         return Err(Rule::NoBytes.at(0));
     }
@@ -74,7 +86,8 @@ pub(crate) fn each_record(
         if length > 255 || length > rest.len() {
             return Err(Rule::OuterCut.at(at));
         }
-        take(&read_fields(kind, &rest[..length], at + 3)?);
+        let (site, contents) = read_fields(kind, &rest[..length], at + 3, list)?;
+        take(&site, &contents);
         at += 3 + length;
         count += 1;
     }
@@ -82,24 +95,30 @@ pub(crate) fn each_record(
 }
 
 /// Reads the fields of a record of a kind; `start` is where they begin in the input.
-fn read_fields(kind: Kind, fields: &[u8], start: usize) -> Result<Site, Refusal> {
+fn read_fields(
+    kind: Kind,
+    fields: &[u8],
+    start: usize,
+    list: SpeciesList,
+) -> Result<(Site, StandContents), Refusal> {
     let end = start + fields.len();
     let mut site = Site {
         kind,
         temperature: EIGHT_DEGREES,
         ..Site::default()
     };
+    let mut contents = StandContents::default();
     let mut rest = fields;
     for due in kind.tags() {
         let at = end - rest.len();
         let (value, after) = read_field(rest, due).map_err(|rule| rule.at(at))?;
         set(&mut site, due, value)
-            .and_then(|()| check_field(&site, due))
+            .and_then(|()| check_field(&site, due, list, &mut contents))
             .map_err(|rule| rule.at(at))?;
         rest = after;
     }
     if rest.is_empty() {
-        Ok(site)
+        Ok((site, contents))
     } else {
         Err(Rule::InnerTag.at(end - rest.len()))
     }
@@ -134,16 +153,10 @@ fn set(site: &mut Site, tag: u8, value: &[u8]) -> Result<(), Rule> {
         (0x04, &[v]) => site.root_depth = v,
         (0x05, &[v]) => site.drainage = v,
         (0x06, &[a, b]) => site.percolation = u16::from_be_bytes([a, b]),
-        (0x07, &[_, ..]) if value.len() <= 16 && value.len().is_multiple_of(4) => {
-            for (entry, bytes) in site.stand.iter_mut().zip(value.chunks_exact(4)) {
-                *entry = Entry {
-                    species: bytes[0],
-                    share: bytes[1],
-                    growth: u16::from_be_bytes([bytes[2], bytes[3]]),
-                };
-            }
-            site.entries = (value.len() / 4) as u8;
-        }
+        (0x07, _) if site.kind == Kind::Tag54 => set_stand(site, value, |bytes: [u8; 5]| bytes)?,
+        (0x07, _) => set_stand(site, value, |[species, rest @ ..]: [u8; 4]| {
+            [0, species, rest[0], rest[1], rest[2]]
+        })?,
         (0x08, &[a, b]) => site.immobilisation = u16::from_be_bytes([a, b]),
         (0x09, &[v]) => site.available_share = v,
         (0x0A, &[a, b]) => site.base_deposition = u16::from_be_bytes([a, b]),
@@ -158,5 +171,30 @@ fn set(site: &mut Site, tag: u8, value: &[u8]) -> Result<(), Rule> {
         (0x10, &[v]) => site.temperature = v,
         _ => return Err(Rule::Length),
     }
+    Ok(())
+}
+
+/// Enters the entries of a stand, each widened to five bytes.
+#[inline(always)]
+fn set_stand<const N: usize>(
+    site: &mut Site,
+    value: &[u8],
+    widen: impl Fn([u8; N]) -> [u8; 5],
+) -> Result<(), Rule> {
+    let (entries, []) = value.as_chunks() else {
+        return Err(Rule::Length);
+    };
+    if !(1..=4).contains(&entries.len()) {
+        return Err(Rule::Length);
+    }
+    for (entry, &bytes) in site.stand.iter_mut().zip(entries) {
+        let [s0, s1, share, g0, g1] = widen(bytes);
+        *entry = Entry {
+            species: u16::from_be_bytes([s0, s1]),
+            share,
+            growth: u16::from_be_bytes([g0, g1]),
+        };
+    }
+    site.entries = entries.len() as u8;
     Ok(())
 }

@@ -17,6 +17,8 @@ pub enum Rule {
     Concentration = 12,
     Missing = 13,
     Pair = 14,
+    List = 15,
+    Unlisted = 16,
 }
 
 /// A broken rule, and where in the lent input.

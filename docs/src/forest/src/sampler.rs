@@ -1,6 +1,6 @@
 use crate::judgement::{judge_checked, Judgement};
 use crate::refusal::{Refusal, Rule};
-use crate::site::{check, Site};
+use crate::site::{stand_contents, Site};
 use crate::terms::up;
 
 const MOST_RAIN: u16 = 1000;
@@ -33,14 +33,15 @@ pub struct Sampled {
 }
 
 /// Judges a site by the pair of twelve months instead of its own.
-pub fn sample(site: &Site, months: &[Month; 12]) -> Result<Sampled, Refusal> {
-    check(site)?;
+pub fn sample(site: &Site, list: &[u8], months: &[Month; 12]) -> Result<Sampled, Refusal> {
+    let contents = stand_contents(site, list)?;
     let (sulphur, nitrogen) = year(months)?;
-    let judgement = judge_checked(&Site {
+    let site = Site {
         sulphur,
         nitrogen,
         ..*site
-    });
+    };
+    let judgement = judge_checked(&site, &contents);
     Ok(Sampled {
         sulphur,
         nitrogen,

@@ -1,4 +1,5 @@
 use crate::refusal::{Refusal, Rule};
+use crate::species::{SpeciesList, StandContents, IN_LIST, IN_TABLE};
 use std::ops::RangeInclusive;
 
 /// The kind of a record, by its outer tag.
@@ -9,11 +10,13 @@ pub enum Kind {
     Tag52 = 0x52,
     /// These and field 10, the temperature.
     Tag53 = 0x53,
+    /// Those of 53, with two bytes for a species.
+    Tag54 = 0x54,
 }
 
 impl Kind {
     pub(crate) fn of_tag(tag: u8) -> Option<Kind> {
-        [Kind::Tag52, Kind::Tag53]
+        [Kind::Tag52, Kind::Tag53, Kind::Tag54]
             .into_iter()
             .find(|&kind| kind as u8 == tag)
     }
@@ -23,8 +26,13 @@ impl Kind {
     pub(crate) fn tags(self) -> RangeInclusive<u8> {
         match self {
             Kind::Tag52 => 0x01..=0x0F,
-            Kind::Tag53 => 0x01..=0x10,
+            Kind::Tag53 | Kind::Tag54 => 0x01..=0x10,
         }
+    }
+
+    #[inline]
+    fn has_species(self, species: u16) -> bool {
+        IN_TABLE.contains(&species) || self == Kind::Tag54 && IN_LIST.contains(&species)
     }
 }
 
@@ -34,7 +42,7 @@ pub const EIGHT_DEGREES: u8 = 13;
 /// One species of the stand.
 #[derive(Clone, Copy, Debug, Default, PartialEq, Eq)]
 pub struct Entry {
-    pub species: u8,
+    pub species: u16,
     /// Percent.
     pub share: u8,
     /// Of a pure stand, kg dry matter ha⁻¹ a⁻¹.
@@ -69,20 +77,24 @@ pub struct Site {
 }
 
 impl Site {
-    /// The site value of `docs/forest.h`: 50 bytes are of kind 52, 51 of kind 53, and another length is refused.
+    /// The site value of `docs/forest.h`: 50 bytes are of kind 52, 51 of kind 53, 55 of kind 54, and another length is refused.
     pub fn from_bytes(bytes: &[u8]) -> Result<Site, Refusal> {
         let wrong_length = Rule::Length.at(0);
         let (b, rest) = bytes.split_first_chunk::<50>().ok_or(wrong_length)?;
-        let (kind, temperature) = match *rest {
-            [] => (Kind::Tag52, EIGHT_DEGREES),
-            [temperature] => (Kind::Tag53, temperature),
+        let (kind, temperature, species_high) = match *rest {
+            [] => (Kind::Tag52, EIGHT_DEGREES, [0; 4]),
+            [temperature] => (Kind::Tag53, temperature, [0; 4]),
+            [temperature, a, b, c, d] => (Kind::Tag54, temperature, [a, b, c, d]),
             _ => return Err(wrong_length),
         };
         let two = |at: usize| u16::from_be_bytes([b[at], b[at + 1]]);
-        let entry = |at: usize| Entry {
-            species: b[at],
-            share: b[at + 1],
-            growth: two(at + 2),
+        let entry = |index: usize| {
+            let at = 16 + 4 * index;
+            Entry {
+                species: u16::from_be_bytes([species_high[index], b[at]]),
+                share: b[at + 1],
+                growth: two(at + 2),
+            }
         };
         Ok(Site {
             kind,
@@ -94,7 +106,7 @@ impl Site {
             root_depth: b[12],
             drainage: b[13],
             percolation: two(14),
-            stand: [entry(16), entry(20), entry(24), entry(28)],
+            stand: [0, 1, 2, 3].map(entry),
             entries: b[32],
             immobilisation: two(33),
             available_share: b[35],
@@ -118,15 +130,29 @@ impl Site {
     }
 }
 
-/// Rules 7 to 10 over a whole site value, in the order of the tags.
-pub fn check(site: &Site) -> Result<(), Refusal> {
-    let mut tags = site.kind.tags();
-    tags.try_for_each(|tag| check_field(site, tag).map_err(|rule| rule.at(0)))
+/// Rule 15 over a list, then 7 to 10 and 16 over a whole site value, in the order of the tags.
+pub fn check(site: &Site, list: &[u8]) -> Result<(), Refusal> {
+    stand_contents(site, list).map(|_| ())
 }
 
-/// Rules 7 to 10 over the value of one tag.
+/// As [`check`]; gives the contents of the stand's entries.
+pub(crate) fn stand_contents(site: &Site, list: &[u8]) -> Result<StandContents, Refusal> {
+    let list = SpeciesList::checked(list)?;
+    let mut contents = StandContents::default();
+    for tag in site.kind.tags() {
+        check_field(site, tag, list, &mut contents).map_err(|rule| rule.at(0))?;
+    }
+    Ok(contents)
+}
+
+/// Rules 7 to 10 and 16 over the value of one tag. The stand's contents are set.
 #[inline(always)]
-pub(crate) fn check_field(site: &Site, tag: u8) -> Result<(), Rule> {
+pub(crate) fn check_field(
+    site: &Site,
+    tag: u8,
+    list: SpeciesList,
+    contents: &mut StandContents,
+) -> Result<(), Rule> {
     let in_range = match tag {
         0x01 => {
             demand(matches!(site.name_length, 1..=8), Rule::Length)?;
@@ -138,7 +164,11 @@ pub(crate) fn check_field(site: &Site, tag: u8) -> Result<(), Rule> {
         0x04 => (1..=200).contains(&site.root_depth),
         0x05 => site.drainage <= 5,
         0x06 => (1..=3000).contains(&site.percolation),
-        0x07 => return check_stand(site),
+        0x07 => {
+            check_stand(site)?;
+            *contents = list.contents_of(site.stand())?;
+            true
+        }
         0x08 => site.immobilisation <= 500,
         0x09 => (70..=85).contains(&site.available_share),
         0x0A => site.base_deposition <= 5000,
@@ -157,7 +187,9 @@ fn check_stand(site: &Site) -> Result<(), Rule> {
     demand(matches!(site.entries, 1..=4), Rule::Length)?;
     let stand = site.stand();
     let in_range = |entry: &Entry| {
-        entry.species <= 8 && (1..=100).contains(&entry.share) && entry.growth <= 20000
+        site.kind.has_species(entry.species)
+            && (1..=100).contains(&entry.share)
+            && entry.growth <= 20000
     };
     demand(stand.iter().all(in_range), Rule::Range)?;
     let rising = |pair: &[Entry]| pair[0].species < pair[1].species;

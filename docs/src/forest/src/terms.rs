@@ -1,20 +1,8 @@
 use crate::level::{search, Found};
 use crate::refusal::Refusal;
-use crate::site::{check, Site};
+use crate::site::{stand_contents, Site};
+use crate::species::StandContents;
 use crate::temperature::temperature_factor;
-
-/// Contents by species in hundredths of eq per tonne: Ca, Mg, K, N.
-const CONTENTS: [[i64; 4]; 9] = [
-    [5389, 1980, 1660, 7782],
-    [7036, 1480, 1970, 8710],
-    [8982, 2140, 3580, 10357],
-    [12330, 1480, 2690, 14993],
-    [8483, 2470, 3330, 9995],
-    [5988, 1650, 1920, 12137],
-    [4790, 1810, 1560, 8214],
-    [14970, 1980, 2560, 9995],
-    [8483, 2470, 3330, 9995],
-];
 
 /// The terms of a site. Fluxes in eq ha⁻¹ a⁻¹.
 #[derive(Clone, Copy, Debug, PartialEq, Eq)]
@@ -50,10 +38,15 @@ pub struct Loads {
     pub nut_n: i64,
 }
 
+/// The terms of a site value, once it passes the checks.
+pub fn terms(site: &Site, list: &[u8]) -> Result<Terms, Refusal> {
+    let contents = stand_contents(site, list)?;
+    Ok(Terms::of(site, &contents))
+}
+
 /// The loads of a site value, once it passes the checks.
-pub fn loads(site: &Site) -> Result<Loads, Refusal> {
-    check(site)?;
-    Ok(Terms::of(site).loads(site))
+pub fn loads(site: &Site, list: &[u8]) -> Result<Loads, Refusal> {
+    Ok(terms(site, list)?.loads(site))
 }
 
 /// Texture class, 1 to 5.
@@ -87,10 +80,9 @@ fn denitrified(site: &Site) -> i64 {
 }
 
 /// Nu and the demand for base cations.
-fn uptake(site: &Site) -> (i64, i64) {
+fn uptake(site: &Site, contents: &StandContents) -> (i64, i64) {
     let (mut nitrogen, mut base) = (0, 0);
-    for entry in site.stand() {
-        let [ca, mg, k, n] = CONTENTS[usize::from(entry.species)];
+    for (entry, [ca, mg, k, n]) in site.stand().iter().zip(contents) {
         let weight = i64::from(entry.share) * i64::from(entry.growth);
         nitrogen += weight * n;
         base += weight * (ca + mg + k);
@@ -118,13 +110,13 @@ pub fn aluminium(site: &Site, h: i64) -> i64 {
 }
 
 impl Terms {
-    /// The terms of a site that passes the checks.
-    pub fn of(site: &Site) -> Terms {
+    /// The terms of a site that passes the checks, with the contents of its stand's entries.
+    pub(crate) fn of(site: &Site, contents: &StandContents) -> Terms {
         let weathering = weathering(site);
         let available = weathering * i64::from(site.available_share) / 100;
         let percolation = i64::from(site.percolation);
 
-        let (nitrogen_uptake, demand) = uptake(site);
+        let (nitrogen_uptake, demand) = uptake(site, contents);
         let supply = i64::from(site.base_deposition) + available;
         let base_uptake = demand.min((supply - up(percolation, 10)).max(0));
         let aluminium_limit = 1500 * (supply - base_uptake) / i64::from(site.critical_ratio);

@@ -1,6 +1,6 @@
 //! The verdict against demand 3's balances, each u, i and h tried one by one.
 
-use forest::{aluminium, hydrogen, judge, Entry, Kind, Site, Terms, Verdict};
+use forest::{aluminium, hydrogen, judge, terms, Entry, Kind, Site, Terms, Verdict};
 
 fn allowed(site: &Site, terms: &Terms, h: i64) -> bool {
     h <= i64::from(site.hydrogen_ceiling) && aluminium(site, h) <= terms.aluminium_limit
@@ -43,22 +43,38 @@ impl Random {
     }
 }
 
-/// A site of few and small fluxes, so that all choices can be tried.
-fn small_site(random: &mut Random) -> Site {
+/// A site of few and small fluxes, so that all choices can be tried, and a species list: of kind 54 with both species in it.
+fn small_site(random: &mut Random) -> (Site, Vec<u8>) {
+    let kind = [Kind::Tag52, Kind::Tag53, Kind::Tag54][usize::from(random.number(0, 2))];
+    let ((low, middle, high), most_growth) = match kind {
+        Kind::Tag54 => ((256, 600, 1023), 40),
+        _ => ((0, 4, 8), 150),
+    };
     let mut stand = [Entry::default(); 4];
     let share = random.number(1, 99);
     stand[0] = Entry {
-        species: random.number(0, 4) as u8,
+        species: random.number(low, middle),
         share: share as u8,
-        growth: random.number(0, 150),
+        growth: random.number(0, most_growth),
     };
     stand[1] = Entry {
-        species: random.number(5, 8) as u8,
+        species: random.number(middle + 1, high),
         share: (100 - share) as u8,
-        growth: random.number(0, 150),
+        growth: random.number(0, most_growth),
     };
-    Site {
-        kind: [Kind::Tag52, Kind::Tag53][usize::from(random.number(0, 1))],
+    let mut list = Vec::new();
+    for entry in &stand[..2] {
+        if kind == Kind::Tag54 {
+            list.extend(entry.species.to_be_bytes());
+            list.extend(
+                [(); 4]
+                    .map(|()| random.number(0, 65535).to_be_bytes())
+                    .as_flattened(),
+            );
+        }
+    }
+    let site = Site {
+        kind,
         name: *b"SMALL\0\0\0",
         name_length: 5,
         parent_material: random.number(0, 4) as u8,
@@ -79,45 +95,45 @@ fn small_site(random: &mut Random) -> Site {
         sulphur: 0,
         nitrogen: 0,
         temperature: random.number(0, 25) as u8,
-    }
+    };
+    (site, list)
 }
 
 #[test]
 fn within_exactly_where_the_balances_close() {
     let mut random = Random(1);
-    let (mut within, mut over) = ([0; 2], [0; 2]);
+    let (mut within, mut over) = ([[0; 3]; 2], [[0; 3]; 2]);
     for _ in 0..40_000 {
-        let mut site = small_site(&mut random);
-        let terms = Terms::of(&site);
+        let (mut site, list) = small_site(&mut random);
+        let terms = terms(&site, &list).unwrap();
         let loads = terms.loads(&site);
         for _ in 0..4 {
             // Pairs on both sides of the loads.
             site.sulphur = random.number(0, loads.max_s as u16 + 3);
             site.nitrogen = random.number(0, loads.nut_n as u16 + 3);
             let closes = closes(&site, &terms);
-            let is_within = judge(&site).unwrap().verdict == Verdict::Within;
+            let is_within = judge(&site, &list).unwrap().verdict == Verdict::Within;
             assert_eq!(is_within, closes, "{site:?}");
             let aluminium_bound = usize::from(terms.level < site.hydrogen_ceiling.into());
+            let kind = site.kind as usize - 0x52;
             if closes {
-                within[aluminium_bound] += 1;
+                within[aluminium_bound][kind] += 1;
             } else {
-                over[aluminium_bound] += 1;
+                over[aluminium_bound][kind] += 1;
             }
         }
     }
-    // Hydrogen-bound and aluminium-bound sites, both often on either side.
-    assert!(
-        within.into_iter().chain(over).all(|count| count > 5000),
-        "{within:?} {over:?}"
-    );
+    // Hydrogen-bound and aluminium-bound sites of each kind, all often on either side.
+    let counts = within.into_iter().chain(over).flatten();
+    assert!(counts.min() > Some(2000), "{within:?} {over:?}");
 }
 
 #[test]
 fn no_level_above_the_greatest_is_allowed() {
     let mut random = Random(2);
     for _ in 0..20_000 {
-        let site = small_site(&mut random);
-        let terms = Terms::of(&site);
+        let (site, list) = small_site(&mut random);
+        let terms = terms(&site, &list).unwrap();
         let greatest = (0..=5000).rfind(|&h| allowed(&site, &terms, h));
         assert_eq!(greatest, Some(terms.level), "{site:?}");
     }

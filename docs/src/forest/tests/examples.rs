@@ -4,7 +4,7 @@ mod common;
 
 use common::{a1, a1_with, bytes};
 use forest::{
-    aluminium, judge, loads, read_record, texture_class, Entry, Kind, Loads, Site, Terms, Verdict,
+    aluminium, judge, loads, read_record, terms, texture_class, Entry, Kind, Loads, Site, Verdict,
 };
 use std::io::Write;
 use std::process::{Command, Stdio};
@@ -19,7 +19,7 @@ fn a1_and_b2() -> Vec<u8> {
 }
 
 fn a1_site() -> Site {
-    read_record(&a1()).unwrap()
+    read_record(&a1(), &[]).unwrap()
 }
 
 fn judged(sulphur: u16, nitrogen: u16) -> Verdict {
@@ -28,7 +28,7 @@ fn judged(sulphur: u16, nitrogen: u16) -> Verdict {
         nitrogen,
         ..a1_site()
     };
-    judge(&site).unwrap().verdict
+    judge(&site, &[]).unwrap().verdict
 }
 
 #[test]
@@ -79,7 +79,7 @@ fn a1_is_read_value_by_value() {
 #[test]
 fn a1_is_written_again() {
     let mut out = [0xEE; 80];
-    assert_eq!(forest::rewrite(&a1(), &mut out), Ok(78));
+    assert_eq!(forest::rewrite(&a1(), &[], &mut out), Ok(78));
     assert_eq!(out[..78], a1());
     assert_eq!(out[78..], [0xEE, 0xEE]);
 }
@@ -101,7 +101,7 @@ fn site_value_of_the_c_interface() {
 #[test]
 fn inside_a1() {
     let site = a1_site();
-    let terms = Terms::of(&site);
+    let terms = terms(&site, &[]).unwrap();
     assert_eq!(terms.weathering, 125);
     assert_eq!(terms.available, 100);
     assert_eq!(terms.nitrogen_uptake, 155);
@@ -111,7 +111,7 @@ fn inside_a1() {
     assert_eq!(terms.acid_leaching, 491);
     assert_eq!(terms.leaching, 40);
     assert_eq!(
-        loads(&site),
+        loads(&site, &[]),
         Ok(Loads {
             max_s: 735,
             min_n: 205,
@@ -131,7 +131,7 @@ fn level_818_is_allowed_and_819_is_not() {
 #[test]
 fn listing_of_a1_and_b2() {
     let mut out = [0xEE; 200];
-    assert_eq!(forest::list(&a1_and_b2(), &mut out), Ok(LISTING.len()));
+    assert_eq!(forest::list(&a1_and_b2(), &[], &mut out), Ok(LISTING.len()));
     assert_eq!(out[..LISTING.len()], *LISTING.as_bytes());
     assert!(out[LISTING.len()..].iter().all(|&byte| byte == 0xEE));
 }
@@ -139,11 +139,14 @@ fn listing_of_a1_and_b2() {
 #[test]
 fn report_is_the_listing_or_the_line_of_the_refusal() {
     let mut out = [0xEE; 200];
-    assert_eq!(forest::report(&a1_and_b2(), &mut out), Ok(LISTING.len()));
+    assert_eq!(
+        forest::report(&a1_and_b2(), &[], &mut out),
+        Ok(LISTING.len())
+    );
     assert_eq!(out[..LISTING.len()], *LISTING.as_bytes());
 
     let mut out = [0xEE; 20];
-    assert_eq!(forest::report(&[], &mut out), Ok(15));
+    assert_eq!(forest::report(&[], &[], &mut out), Ok(15));
     assert_eq!(out, *b"refused 1 at 0\n\xEE\xEE\xEE\xEE\xEE");
 }
 
@@ -226,7 +229,7 @@ fn uptake_by_species() {
         site.base_deposition = 5000;
         site.stand[0].species = species;
         site.stand[0].growth = 20000;
-        let terms = Terms::of(&site);
+        let terms = terms(&site, &[]).unwrap();
         assert_eq!((terms.nitrogen_uptake, terms.base_uptake), expected);
     }
 }
@@ -238,12 +241,12 @@ fn uptake_divides_the_sum_once() {
         site.entries = 2;
         for (index, growth) in [pine, spruce].into_iter().enumerate() {
             site.stand[index] = Entry {
-                species: index as u8,
+                species: index as u16,
                 share: 50,
                 growth,
             };
         }
-        let terms = Terms::of(&site);
+        let terms = terms(&site, &[]).unwrap();
         (terms.nitrogen_uptake, terms.base_uptake)
     };
     // N: 6,225,600 + 6,097,000, each alone down to 0. Bases: 7,223,200 + 7,340,200.
@@ -261,7 +264,7 @@ fn base_uptake_leaves_a_tenth_of_the_percolation() {
             percolation,
             ..a1_site()
         };
-        assert_eq!(Terms::of(&site).base_uptake, expected);
+        assert_eq!(terms(&site, &[]).unwrap().base_uptake, expected);
     }
 }
 
@@ -284,7 +287,7 @@ fn weathering_by_parent_material_and_texture() {
                 root_depth: 100,
                 ..a1_site()
             };
-            assert_eq!(Terms::of(&site).weathering, expected);
+            assert_eq!(terms(&site, &[]).unwrap().weathering, expected);
         }
     }
 }
@@ -299,7 +302,7 @@ fn denitrification_by_drainage() {
                 drainage,
                 ..a1_site()
             };
-            assert_eq!(loads(&site).unwrap().nut_n, expected);
+            assert_eq!(loads(&site, &[]).unwrap().nut_n, expected);
         }
     }
 }
@@ -327,9 +330,9 @@ fn peat_denitrifies_alike_at_every_drainage() {
             nitrogen,
             ..a1_site()
         };
-        assert_eq!(loads(&peat(405)), Ok(expected));
+        assert_eq!(loads(&peat(405), &[]), Ok(expected));
         // 390,000 + 200 × 200 is 1000 × CLmaxS, and 200 × 200 is 1000 × L.
-        assert_eq!(judge(&peat(405)).unwrap().verdict, Verdict::Within);
-        assert_eq!(judge(&peat(406)).unwrap().verdict, over);
+        assert_eq!(judge(&peat(405), &[]).unwrap().verdict, Verdict::Within);
+        assert_eq!(judge(&peat(406), &[]).unwrap().verdict, over);
     }
 }

@@ -3,24 +3,24 @@
 mod common;
 
 use common::a1;
-use forest::{aluminium, level, read_record, search, Found, Refusal, Site, Terms};
+use forest::{aluminium, level, read_record, search, terms, Found, Refusal, Site};
 
 fn a1_with_ceiling(ceiling: u16) -> Site {
     Site {
         hydrogen_ceiling: ceiling,
-        ..read_record(&a1()).unwrap()
+        ..read_record(&a1(), &[]).unwrap()
     }
 }
 
 /// The levels that the search compares at a site, in order, and what it finds.
 fn compared(site: &Site) -> (Vec<i64>, Found) {
-    let limit = Terms::of(site).aluminium_limit;
+    let limit = terms(site, &[]).unwrap().aluminium_limit;
     let mut levels = Vec::new();
     let found = search(i64::from(site.hydrogen_ceiling), |h| {
         levels.push(h);
         aluminium(site, h) <= limit
     });
-    assert_eq!(level(site), Ok(found));
+    assert_eq!(level(site, &[]), Ok(found));
     assert_eq!(found.compared, levels.len() as i64);
     (levels, found)
 }
@@ -89,7 +89,7 @@ fn every_level_below_every_ceiling() {
 #[test]
 fn a_bad_site_is_refused_at_0() {
     let refused =
-        |site: Site| level(&site).map_err(|Refusal { rule, offset }| (rule as u8, offset));
+        |site: Site| level(&site, &[]).map_err(|Refusal { rule, offset }| (rule as u8, offset));
     assert_eq!(refused(a1_with_ceiling(0)), Err((8, 0)));
     assert_eq!(refused(a1_with_ceiling(5001)), Err((8, 0)));
     let no_stand = Site {

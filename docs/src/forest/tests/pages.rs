@@ -48,7 +48,7 @@ fn numbered_line(k: usize) -> String {
 /// The pages in a buffer longer than they are, whose other bytes stay.
 fn pages(file: &[u8]) -> String {
     let mut out = vec![0xEE; 40_000];
-    let length = forest::pages(file, &mut out).unwrap();
+    let length = forest::pages(file, &[], &mut out).unwrap();
     assert!(out[length..].iter().all(|&byte| byte == 0xEE));
     out.truncate(length);
     String::from_utf8(out).unwrap()
@@ -57,7 +57,7 @@ fn pages(file: &[u8]) -> String {
 /// Number and offset of a refusal in a buffer of so many bytes, all of which stay.
 fn refused(file: &[u8], room: usize) -> (u8, usize) {
     let mut out = vec![0xEE; room];
-    let Refusal { rule, offset } = forest::pages(file, &mut out).unwrap_err();
+    let Refusal { rule, offset } = forest::pages(file, &[], &mut out).unwrap_err();
     assert!(out.iter().all(|&byte| byte == 0xEE));
     (rule as u8, offset)
 }
@@ -187,7 +187,7 @@ fn the_buffer_is_measured_by_all_pages_together() {
     for (count, _, _, byte_count) in SIZES {
         let file = numbered(count);
         let mut out = vec![0xEE; byte_count];
-        assert_eq!(forest::pages(&file, &mut out), Ok(byte_count));
+        assert_eq!(forest::pages(&file, &[], &mut out), Ok(byte_count));
         assert_eq!(refused(&file, byte_count - 1), (11, 0));
         assert_eq!(refused(&file, LINE), (11, 0));
         assert_eq!(refused(&file, 0), (11, 0));
@@ -207,7 +207,7 @@ fn a_fault_on_a_later_page_leaves_the_buffer() {
     assert_eq!(first_page.len(), 4720);
     let after = |more: &[u8]| refused(&[&first_page, more].concat(), 40_000);
     assert_eq!(after(&a1()[..77]), (2, 4720));
-    assert_eq!(after(&bytes("54 0000")), (3, 4720));
+    assert_eq!(after(&bytes("55 0000")), (3, 4720));
     assert_eq!(after(&bytes("52 0001 01")), (5, 4723));
     assert_eq!(after(&bytes("52 0000")), (6, 4723));
     assert_eq!(after(&a1_with(&["0F 0002 01F4"])), (7, 4720 + 71));

@@ -1,4 +1,5 @@
-//! Each refusal of document 01 with its offset, and those of E5's field 10; every one leaves the buffer as it was.
+//! Each refusal of document 01 with its offset, and those of E5's field 10; every one leaves the buffer as it was. Those of E6
+//! stand in `species.rs`.
 
 mod common;
 
@@ -9,12 +10,12 @@ use forest::{Kind, Refusal, Site};
 /// record.
 fn refused(file: &[u8]) -> (u8, usize) {
     let mut out = [0xEE; 4096];
-    let Refusal { rule, offset } = forest::list(file, &mut out).unwrap_err();
+    let Refusal { rule, offset } = forest::list(file, &[], &mut out).unwrap_err();
     assert_eq!(out, [0xEE; 4096]);
-    let pages = forest::pages(file, &mut out).unwrap_err();
+    let pages = forest::pages(file, &[], &mut out).unwrap_err();
     assert_eq!(pages, Refusal { rule, offset });
     assert_eq!(out, [0xEE; 4096]);
-    let single = forest::rewrite(file, &mut out).unwrap_err();
+    let single = forest::rewrite(file, &[], &mut out).unwrap_err();
     assert_eq!(single, Refusal { rule, offset });
     assert_eq!(out, [0xEE; 4096]);
     (rule as u8, offset)
@@ -31,9 +32,11 @@ fn outer_field() {
     assert_eq!(refused(&bytes("00")), (2, 0));
     assert_eq!(refused(&a1()[..77]), (2, 0));
     assert_eq!(refused(&bytes("51 0100")), (3, 0));
-    assert_eq!(refused(&bytes("54 0100")), (3, 0));
-    assert_eq!(refused(&bytes("53 00")), (2, 0));
-    assert_eq!(refused(&bytes("53 0100")), (2, 0));
+    assert_eq!(refused(&bytes("55 0100")), (3, 0));
+    for tag in ["53", "54"] {
+        assert_eq!(refused(&bytes(&format!("{tag} 00"))), (2, 0));
+        assert_eq!(refused(&bytes(&format!("{tag} 0100"))), (2, 0));
+    }
     let mut above_255 = bytes("52 0100");
     above_255.resize(400, 0);
     assert_eq!(refused(&above_255), (2, 0));
@@ -43,13 +46,13 @@ fn outer_field() {
 fn outer_field_of_a_second_record() {
     let refused = |second: &str| {
         let file = [a1(), bytes(second)].concat();
-        let refusal = forest::list(&file, &mut [0; 200]).unwrap_err();
+        let refusal = forest::list(&file, &[], &mut [0; 200]).unwrap_err();
         (refusal.rule as u8, refusal.offset)
     };
     assert_eq!(refused("54"), (2, 78));
     assert_eq!(refused("51 0000"), (3, 78));
-    assert_eq!(refused("54 0000"), (3, 78));
-    for tag in ["52", "53"] {
+    assert_eq!(refused("55 0000"), (3, 78));
+    for tag in ["52", "53", "54"] {
         assert_eq!(refused(&format!("{tag} 0001")), (2, 78));
         assert_eq!(refused(&format!("{tag} 0000")), (6, 81));
         assert_eq!(refused(&format!("{tag} 0001 01")), (5, 81));
@@ -61,11 +64,11 @@ fn outer_field_of_a_second_record() {
 fn five_hundred_records_and_no_more() {
     let mut file = a1().repeat(500);
     let mut out = [0xEE; 20000];
-    assert_eq!(forest::list(&file, &mut out), Ok(51 + 500 * 35));
+    assert_eq!(forest::list(&file, &[], &mut out), Ok(51 + 500 * 35));
     file.push(0);
-    let refusal = forest::list(&file, &mut out).unwrap_err();
+    let refusal = forest::list(&file, &[], &mut out).unwrap_err();
     assert_eq!((refusal.rule as u8, refusal.offset), (4, 39000));
-    let refusal = forest::list(&a1().repeat(501), &mut out).unwrap_err();
+    let refusal = forest::list(&a1().repeat(501), &[], &mut out).unwrap_err();
     assert_eq!((refusal.rule as u8, refusal.offset), (4, 39000));
 }
 
@@ -73,16 +76,16 @@ fn five_hundred_records_and_no_more() {
 fn a_fault_before_the_501st_record_comes_first() {
     let mut file = a1().repeat(501);
     file[499 * 78 + 3] = 0x02;
-    let refusal = forest::list(&file, &mut [0; 20000]).unwrap_err();
+    let refusal = forest::list(&file, &[], &mut [0; 20000]).unwrap_err();
     assert_eq!((refusal.rule as u8, refusal.offset), (6, 499 * 78 + 3));
 }
 
 #[test]
 fn a_single_record_has_nothing_after_it() {
     let two = a1().repeat(2);
-    let refusal = forest::read_record(&two).unwrap_err();
+    let refusal = forest::read_record(&two, &[]).unwrap_err();
     assert_eq!((refusal.rule as u8, refusal.offset), (4, 78));
-    let refusal = forest::read_record(&two[..79]).unwrap_err();
+    let refusal = forest::read_record(&two[..79], &[]).unwrap_err();
     assert_eq!((refusal.rule as u8, refusal.offset), (4, 78));
 }
 
@@ -132,13 +135,13 @@ fn ending(more: &[&str]) -> Vec<u8> {
 #[test]
 fn another_outer_tag() {
     let good = ending(&["10 0001 0D"]);
-    assert_eq!(forest::list(&good, &mut [0; 86]), Ok(86));
-    for tag in (0x00..=0xFF).filter(|tag| ![0x52, 0x53].contains(tag)) {
+    assert_eq!(forest::list(&good, &[], &mut [0; 86]), Ok(86));
+    for tag in (0x00..=0xFF).filter(|tag| !(0x52..=0x54).contains(tag)) {
         let mut record = good.clone();
         record[0] = tag;
         assert_eq!(refused(&record), (3, 0));
     }
-    // With the other of both tags, the field is missing or one too many.
+    // With the other of these two, the field is missing or one too many.
     assert_eq!(
         refused(&outer(0x52, &[&A1_FIELDS[..], &["10 0001 0D"]].concat())),
         (6, 78)
@@ -152,7 +155,7 @@ fn no_field_10() {
     assert_eq!(refused(&outer(0x53, &A1_FIELDS[..14])), (6, 71));
     // The record's end, though the file goes on with what could be the field.
     for next in [&a1()[..], &bytes("10 0001 0D")] {
-        let refusal = forest::list(&[ending(&[]), next.to_vec()].concat(), &mut [0; 200]);
+        let refusal = forest::list(&[ending(&[]), next.to_vec()].concat(), &[], &mut [0; 200]);
         let Refusal { rule, offset } = refusal.unwrap_err();
         assert_eq!((rule as u8, offset), (6, 78));
     }
@@ -191,12 +194,12 @@ fn a_fault_in_a_mixed_file() {
     let mild = ending(&["10 0001 0D"]);
     let refused = |last: &[u8]| {
         let file = [&mild, &a1(), &mild, last].concat();
-        let refusal = forest::list(&file, &mut [0; 400]).unwrap_err();
+        let refusal = forest::list(&file, &[], &mut [0; 400]).unwrap_err();
         (refusal.rule as u8, refusal.offset)
     };
     // 82 + 78 + 82 bytes.
     assert_eq!(refused(&mild[..81]), (2, 242));
-    assert_eq!(refused(&outer(0x54, &A1_FIELDS)), (3, 242));
+    assert_eq!(refused(&outer(0x55, &A1_FIELDS)), (3, 242));
     assert_eq!(refused(&ending(&["10 0001"])), (5, 242 + 78));
     assert_eq!(refused(&ending(&[])), (6, 242 + 78));
     assert_eq!(refused(&ending(&["10 0001 0D 00"])), (6, 242 + 82));
@@ -207,7 +210,7 @@ fn a_fault_in_a_mixed_file() {
     assert_eq!(refused(&ending(&["10 0000"])), (7, 242 + 78));
     assert_eq!(refused(&ending(&["10 0001 1A"])), (8, 242 + 78));
     // A single record of kind 53 has nothing after it either.
-    let refusal = forest::read_record(&[&mild[..], &a1()].concat()).unwrap_err();
+    let refusal = forest::read_record(&[&mild[..], &a1()].concat(), &[]).unwrap_err();
     assert_eq!((refusal.rule as u8, refusal.offset), (4, 82));
 }
 
@@ -216,8 +219,8 @@ fn five_hundred_records_of_both_kinds() {
     let pair = [a1(), ending(&["10 0001 0D"])].concat();
     let mut out = [0; 20_000];
     let full = pair.repeat(250);
-    assert_eq!(forest::list(&full, &mut out), Ok(51 + 500 * 35));
-    let refusal = forest::list(&[&full[..], &[0x53]].concat(), &mut out).unwrap_err();
+    assert_eq!(forest::list(&full, &[], &mut out), Ok(51 + 500 * 35));
+    let refusal = forest::list(&[&full[..], &[0x53]].concat(), &[], &mut out).unwrap_err();
     assert_eq!((refusal.rule as u8, refusal.offset), (4, 250 * (78 + 82)));
 }
 
@@ -321,7 +324,7 @@ fn values_at_both_ends_of_their_range() {
     let greatest_53 = [&[0x53, 0, 97], &greatest[3..], &[0x10, 0, 1, 25]].concat();
     for record in [least, greatest, greatest_53] {
         let mut out = [0; 100];
-        let length = forest::rewrite(&record, &mut out).unwrap();
+        let length = forest::rewrite(&record, &[], &mut out).unwrap();
         assert_eq!(out[..length], record);
     }
 }
@@ -356,36 +359,36 @@ fn the_leftmost_fault_is_given() {
 #[test]
 fn buffer_shorter_than_the_output() {
     let mut out = [0xEE; 85];
-    let refusal = forest::list(&a1(), &mut out).unwrap_err();
+    let refusal = forest::list(&a1(), &[], &mut out).unwrap_err();
     assert_eq!((refusal.rule as u8, refusal.offset), (11, 0));
-    let refusal = forest::report(&a1(), &mut out).unwrap_err();
+    let refusal = forest::report(&a1(), &[], &mut out).unwrap_err();
     assert_eq!((refusal.rule as u8, refusal.offset), (11, 0));
-    let refusal = forest::rewrite(&a1(), &mut out[..77]).unwrap_err();
+    let refusal = forest::rewrite(&a1(), &[], &mut out[..77]).unwrap_err();
     assert_eq!((refusal.rule as u8, refusal.offset), (11, 0));
-    let refusal = forest::report(&[], &mut out[..14]).unwrap_err();
+    let refusal = forest::report(&[], &[], &mut out[..14]).unwrap_err();
     assert_eq!((refusal.rule as u8, refusal.offset), (11, 0));
     assert_eq!(out, [0xEE; 85]);
     // 51 bytes of the header and 35 of A1's line.
-    assert_eq!(forest::list(&a1(), &mut [0; 86]), Ok(86));
+    assert_eq!(forest::list(&a1(), &[], &mut [0; 86]), Ok(86));
 }
 
 #[test]
 fn a_fault_comes_before_a_short_buffer() {
-    let refusal = forest::list(&a1()[..77], &mut []).unwrap_err();
+    let refusal = forest::list(&a1()[..77], &[], &mut []).unwrap_err();
     assert_eq!((refusal.rule as u8, refusal.offset), (2, 0));
 }
 
 #[test]
 fn site_values_are_checked_in_tag_order_at_offset_0() {
-    let good = forest::read_record(&a1()).unwrap();
-    assert_eq!(forest::check(&good), Ok(()));
+    let good = forest::read_record(&a1(), &[]).unwrap();
+    assert_eq!(forest::check(&good, &[]), Ok(()));
     let refused = |site: &Site| {
-        let refusal = forest::check(site).unwrap_err();
+        let refusal = forest::check(site, &[]).unwrap_err();
         let mut out = [0xEE; 96];
-        assert_eq!(forest::write_record(site, &mut out), Err(refusal));
+        assert_eq!(forest::write_record(site, &[], &mut out), Err(refusal));
         assert_eq!(out, [0xEE; 96]);
-        assert_eq!(forest::loads(site), Err(refusal));
-        assert_eq!(forest::judge(site), Err(refusal));
+        assert_eq!(forest::loads(site, &[]), Err(refusal));
+        assert_eq!(forest::judge(site, &[]), Err(refusal));
         assert_eq!(refusal.offset, 0);
         refusal.rule as u8
     };
@@ -416,20 +419,20 @@ fn the_temperature_of_a_site_value_is_checked_last() {
     let good = Site {
         kind: Kind::Tag53,
         temperature: 25,
-        ..forest::read_record(&a1()).unwrap()
+        ..forest::read_record(&a1(), &[]).unwrap()
     };
-    assert_eq!(forest::check(&good), Ok(()));
+    assert_eq!(forest::check(&good, &[]), Ok(()));
     let refused = |site: &Site| {
-        let Refusal { rule, offset } = forest::check(site).unwrap_err();
+        let Refusal { rule, offset } = forest::check(site, &[]).unwrap_err();
         let mut out = [0xEE; 100];
         assert_eq!(
-            forest::write_record(site, &mut out),
+            forest::write_record(site, &[], &mut out),
             Err(Refusal { rule, offset })
         );
         assert_eq!(out, [0xEE; 100]);
-        assert_eq!(forest::loads(site), Err(Refusal { rule, offset }));
-        assert_eq!(forest::level(site), Err(Refusal { rule, offset }));
-        assert_eq!(forest::judge(site), Err(Refusal { rule, offset }));
+        assert_eq!(forest::loads(site, &[]), Err(Refusal { rule, offset }));
+        assert_eq!(forest::level(site, &[]), Err(Refusal { rule, offset }));
+        assert_eq!(forest::judge(site, &[]), Err(Refusal { rule, offset }));
         (rule as u8, offset)
     };
     for temperature in 26..=255 {
@@ -445,13 +448,13 @@ fn the_temperature_of_a_site_value_is_checked_last() {
 
 #[test]
 fn what_lies_past_name_and_stand_is_no_part_of_a_site() {
-    let good = forest::read_record(&a1()).unwrap();
+    let good = forest::read_record(&a1(), &[]).unwrap();
     let mut site = good;
     site.name[2..].fill(0xFF);
     site.stand[1].species = 255;
-    assert_eq!(forest::check(&site), Ok(()));
-    assert_eq!(forest::judge(&site), forest::judge(&good));
+    assert_eq!(forest::check(&site, &[]), Ok(()));
+    assert_eq!(forest::judge(&site, &[]), forest::judge(&good, &[]));
     let mut out = [0; 78];
-    assert_eq!(forest::write_record(&site, &mut out), Ok(78));
+    assert_eq!(forest::write_record(&site, &[], &mut out), Ok(78));
     assert_eq!(out[..], a1());
 }

@@ -7,7 +7,7 @@ use forest::{judge, months_from_bytes, read_record, sample, Month, Reading, Refu
 use Reading::{Below, Measured, Missing};
 
 fn a1_site() -> Site {
-    read_record(&a1()).unwrap()
+    read_record(&a1(), &[]).unwrap()
 }
 
 fn month(rain: u16, sulphate: Reading, nitrate: Reading, ammonium: Reading) -> Month {
@@ -34,7 +34,7 @@ fn year(first: &[Month]) -> [Month; 12] {
 }
 
 fn pair(months: &[Month; 12]) -> Result<(u16, u16), (u8, usize)> {
-    sample(&a1_site(), months)
+    sample(&a1_site(), &[], months)
         .map(|sampled| (sampled.sulphur, sampled.nitrogen))
         .map_err(|Refusal { rule, offset }| (rule as u8, offset))
 }
@@ -143,10 +143,10 @@ fn the_pair_is_judged_as_by_key() {
         nitrogen: 240,
         ..a1_site()
     };
-    let sampled = sample(&site, &months).unwrap();
+    let sampled = sample(&site, &[], &months).unwrap();
     assert_eq!((sampled.sulphur, sampled.nitrogen), (500, 700));
-    assert_eq!(sampled.judgement, judge(&a1_site()).unwrap());
-    assert_ne!(sampled.judgement, judge(&site).unwrap());
+    assert_eq!(sampled.judgement, judge(&a1_site(), &[]).unwrap());
+    assert_ne!(sampled.judgement, judge(&site, &[]).unwrap());
 }
 
 #[test]
@@ -156,7 +156,7 @@ fn the_site_is_checked_first() {
         ..a1_site()
     };
     let months = year(&[month(0, Missing, Missing, Missing)]);
-    let Refusal { rule, offset } = sample(&site, &months).unwrap_err();
+    let Refusal { rule, offset } = sample(&site, &[], &months).unwrap_err();
     assert_eq!((rule as u8, offset), (8, 0));
 }
 

@@ -4,8 +4,8 @@ mod common;
 
 use common::{a1, a1_with, bytes, outer, A1_FIELDS};
 use forest::{
-    judge, level, loads, read_record, sample, temperature_factor, write_record, Entry, Found, Kind,
-    Loads, Month, Reading, Site, Terms, Verdict,
+    judge, level, loads, read_record, sample, temperature_factor, terms, write_record, Entry,
+    Found, Kind, Loads, Month, Reading, Site, Verdict,
 };
 
 /// t at −5 to 20 °C.
@@ -21,7 +21,7 @@ fn a1_at(temperature: u8) -> Vec<u8> {
 }
 
 fn a1_site_at(temperature: u8) -> Site {
-    read_record(&a1_at(temperature)).unwrap()
+    read_record(&a1_at(temperature), &[]).unwrap()
 }
 
 #[test]
@@ -48,12 +48,12 @@ fn a_record_of_kind_53_is_read_value_by_value() {
     let expected = Site {
         kind: Kind::Tag53,
         temperature: 25,
-        ..read_record(&a1()).unwrap()
+        ..read_record(&a1(), &[]).unwrap()
     };
     assert_eq!(a1_at(25).len(), 82);
     assert_eq!(a1_site_at(25), expected);
     // Kind 52 has no field for it, and gets that of 8 °C.
-    let site = read_record(&a1()).unwrap();
+    let site = read_record(&a1(), &[]).unwrap();
     assert_eq!((site.kind, site.temperature), (Kind::Tag52, 13));
 }
 
@@ -61,7 +61,7 @@ fn a_record_of_kind_53_is_read_value_by_value() {
 fn a1_at_20_degrees() {
     // 250 × 50 × 1690 / 100,000 = 211.25; 211 × 80 / 100 = 168.8; 1500 × (300 + 168 − 181) / 1000 = 430.5.
     let site = a1_site_at(25);
-    let terms = Terms::of(&site);
+    let terms = terms(&site, &[]).unwrap();
     assert_eq!(terms.weathering, 211);
     assert_eq!(terms.available, 168);
     assert_eq!(terms.nitrogen_uptake, 155);
@@ -69,7 +69,7 @@ fn a1_at_20_degrees() {
     assert_eq!(terms.aluminium_limit, 430);
     // al(895) is 430, al(896) 431, and hydrogen 179.
     assert_eq!(
-        level(&site),
+        level(&site, &[]),
         Ok(Found {
             level: 895,
             compared: 11
@@ -83,28 +83,28 @@ fn a1_at_20_degrees() {
         max_n: 1248,
         nut_n: 249,
     };
-    assert_eq!(loads(&site), Ok(expected));
+    assert_eq!(loads(&site, &[]), Ok(expected));
     // v = 500,000 + 900 × 495 − 939,000 = 6500, and 1900 × 6500 / 1,810,000 is 6.8.
     let over = Verdict::Over {
         region: 2,
         acid: 7,
         nutrient: 451,
     };
-    assert_eq!(judge(&site).unwrap().verdict, over);
+    assert_eq!(judge(&site, &[]).unwrap().verdict, over);
 }
 
 #[test]
 fn a1_at_5_degrees_below_zero() {
     // 250 × 50 × 537 / 100,000 = 67.125; 67 × 80 / 100 = 53.6; 1500 × (300 + 53 − 181) / 1000 = 258.
     let site = a1_site_at(0);
-    let terms = Terms::of(&site);
+    let terms = terms(&site, &[]).unwrap();
     assert_eq!(terms.weathering, 67);
     assert_eq!(terms.available, 53);
     assert_eq!(terms.base_uptake, 181);
     assert_eq!(terms.aluminium_limit, 258);
     // al(755) is 258, al(756) 259, and hydrogen 151.
     assert_eq!(
-        level(&site),
+        level(&site, &[]),
         Ok(Found {
             level: 755,
             compared: 11
@@ -118,14 +118,14 @@ fn a1_at_5_degrees_below_zero() {
         max_n: 866,
         nut_n: 249,
     };
-    assert_eq!(loads(&site), Ok(expected));
+    assert_eq!(loads(&site, &[]), Ok(expected));
     // v = 500,000 + 900 × 495 − 595,000 = 350,500, and 1900 × 350,500 / 1,810,000 is 367.9.
     let over = Verdict::Over {
         region: 2,
         acid: 368,
         nutrient: 451,
     };
-    assert_eq!(judge(&site).unwrap().verdict, over);
+    assert_eq!(judge(&site, &[]).unwrap().verdict, over);
 }
 
 #[test]
@@ -136,7 +136,7 @@ fn the_mark_goes_with_the_temperature() {
             nitrogen,
             ..site
         };
-        judge(&site).unwrap().verdict
+        judge(&site, &[]).unwrap().verdict
     };
     let over = |region, acid| Verdict::Over {
         region,
@@ -178,7 +178,7 @@ fn weathering_by_parent_material_and_texture() {
                     root_depth: 100,
                     ..a1_site_at(temperature)
                 };
-                assert_eq!(Terms::of(&site).weathering, expected);
+                assert_eq!(terms(&site, &[]).unwrap().weathering, expected);
             }
         }
     }
@@ -191,7 +191,7 @@ fn weathering_is_rounded_once() {
             root_depth,
             ..a1_site_at(temperature)
         };
-        Terms::of(&site).weathering
+        terms(&site, &[]).unwrap().weathering
     };
     // 250 × 1690 / 100,000 = 4.225, where 2 × 1690 / 1000 is 3.38.
     assert_eq!(weathering(1, 25), 4);
@@ -207,36 +207,36 @@ fn organic_parent_material_does_not_weather() {
         parent_material: 0,
         ..site
     };
-    let site = peat(read_record(&a1()).unwrap());
+    let site = peat(read_record(&a1(), &[]).unwrap());
     for temperature in 0..=25 {
         let warm = peat(a1_site_at(temperature));
-        assert_eq!(Terms::of(&warm).weathering, 0);
-        assert_eq!(judge(&warm), judge(&site));
+        assert_eq!(terms(&warm, &[]).unwrap().weathering, 0);
+        assert_eq!(judge(&warm, &[]), judge(&site, &[]));
     }
 }
 
 #[test]
 fn at_8_degrees_both_kinds_are_alike() {
     let mild = a1_site_at(13);
-    let site = read_record(&a1()).unwrap();
-    assert_eq!(Terms::of(&mild), Terms::of(&site));
-    assert_eq!(judge(&mild), judge(&site));
+    let site = read_record(&a1(), &[]).unwrap();
+    assert_eq!(terms(&mild, &[]).unwrap(), terms(&site, &[]).unwrap());
+    assert_eq!(judge(&mild, &[]), judge(&site, &[]));
 }
 
 #[test]
 fn kind_52_has_no_temperature() {
-    let site = read_record(&a1()).unwrap();
+    let site = read_record(&a1(), &[]).unwrap();
     for temperature in 0..=255 {
         let other = Site {
             temperature,
             ..site
         };
-        assert_eq!(forest::check(&other), Ok(()));
+        assert_eq!(forest::check(&other, &[]), Ok(()));
         assert_eq!(temperature_factor(&other), 1000);
-        assert_eq!(Terms::of(&other), Terms::of(&site));
-        assert_eq!(judge(&other), judge(&site));
+        assert_eq!(terms(&other, &[]).unwrap(), terms(&site, &[]).unwrap());
+        assert_eq!(judge(&other, &[]), judge(&site, &[]));
         let mut out = [0xEE; 82];
-        assert_eq!(write_record(&other, &mut out), Ok(78));
+        assert_eq!(write_record(&other, &[], &mut out), Ok(78));
         assert_eq!(out[..78], a1());
         assert_eq!(out[78..], [0xEE; 4]);
     }
@@ -248,7 +248,10 @@ fn site_values_of_the_c_interface() {
         "4131000000000000 02 01 0A 41 32 01 00C8 006407D0 00000000 00000000 00000000 01
          0032 50 012C 03E8 0BB8 03E8 0014 01F4 02BC",
     );
-    assert_eq!(Site::from_bytes(&value), Ok(read_record(&a1()).unwrap()));
+    assert_eq!(
+        Site::from_bytes(&value),
+        Ok(read_record(&a1(), &[]).unwrap())
+    );
     for temperature in 0..=25 {
         let longer = [&value[..], &[temperature]].concat();
         assert_eq!(Site::from_bytes(&longer), Ok(a1_site_at(temperature)));
@@ -256,8 +259,8 @@ fn site_values_of_the_c_interface() {
     // A bad temperature can be entered, and is refused.
     let bad = Site::from_bytes(&[&value[..], &[26]].concat()).unwrap();
     assert_eq!((bad.kind, bad.temperature), (Kind::Tag53, 26));
-    assert_eq!(judge(&bad).unwrap_err().to_string(), "refused 8 at 0");
-    for length in (0..200).filter(|length| ![50, 51].contains(length)) {
+    assert_eq!(judge(&bad, &[]).unwrap_err().to_string(), "refused 8 at 0");
+    for length in (0..200).filter(|length| ![50, 51, 55].contains(length)) {
         let mut other = value.clone();
         other.resize(length, 13);
         let refusal = Site::from_bytes(&other).unwrap_err();
@@ -270,10 +273,10 @@ fn an_accepted_record_is_written_again() {
     for temperature in 0..=25 {
         let record = a1_at(temperature);
         let mut out = [0xEE; 84];
-        assert_eq!(forest::rewrite(&record, &mut out), Ok(82));
+        assert_eq!(forest::rewrite(&record, &[], &mut out), Ok(82));
         assert_eq!(out[..82], record);
         assert_eq!(out[82..], [0xEE, 0xEE]);
-        let refusal = forest::rewrite(&record, &mut out[..81]).unwrap_err();
+        let refusal = forest::rewrite(&record, &[], &mut out[..81]).unwrap_err();
         assert_eq!(refusal.to_string(), "refused 11 at 0");
     }
 }
@@ -294,22 +297,22 @@ fn a_written_record_reads_back_to_its_site() {
             ..a1_site_at(temperature)
         };
         let mut out = [0; 100];
-        assert_eq!(write_record(&full, &mut out), Ok(100));
+        assert_eq!(write_record(&full, &[], &mut out), Ok(100));
         assert_eq!(out[..3], [0x53, 0, 97]);
         assert_eq!(out[96..], [0x10, 0, 1, temperature]);
-        assert_eq!(read_record(&out), Ok(full));
+        assert_eq!(read_record(&out, &[]), Ok(full));
         // Kind 52 loses its temperature, which is no part of it.
         let plain = Site {
             kind: Kind::Tag52,
             ..full
         };
-        assert_eq!(write_record(&plain, &mut out), Ok(96));
+        assert_eq!(write_record(&plain, &[], &mut out), Ok(96));
         assert_eq!(out[..3], [0x52, 0, 93]);
         let expected = Site {
             temperature: 13,
             ..plain
         };
-        assert_eq!(read_record(&out[..96]), Ok(expected));
+        assert_eq!(read_record(&out[..96], &[]), Ok(expected));
     }
 }
 
@@ -335,13 +338,13 @@ A1 939 205 1248 249 2 7 451 over
 fn files_may_mix_both_kinds() {
     let (file, lines, page) = mixed();
     let mut out = [0; 400];
-    let length = forest::list(&file, &mut out).unwrap();
+    let length = forest::list(&file, &[], &mut out).unwrap();
     assert_eq!(out[..length], *lines.as_bytes());
-    let length = forest::report(&file, &mut out).unwrap();
+    let length = forest::report(&file, &[], &mut out).unwrap();
     assert_eq!(out[..length], *lines.as_bytes());
-    let length = forest::pages(&file, &mut out).unwrap();
+    let length = forest::pages(&file, &[], &mut out).unwrap();
     assert_eq!(out[..length], *page.as_bytes());
-    let short = forest::list(&file, &mut out[..lines.len() - 1]).unwrap_err();
+    let short = forest::list(&file, &[], &mut out[..lines.len() - 1]).unwrap_err();
     assert_eq!(short.to_string(), "refused 11 at 0");
 }
 
@@ -357,15 +360,19 @@ fn the_sampler_takes_both_kinds() {
     let mut months = [month(0, 0.0, 0.0); 12];
     months[3] = month(800, 1.0, 1.0);
     months[8] = month(180, 0.0, 1.0);
-    for own in [a1_site_at(0), a1_site_at(25), read_record(&a1()).unwrap()] {
+    for own in [
+        a1_site_at(0),
+        a1_site_at(25),
+        read_record(&a1(), &[]).unwrap(),
+    ] {
         let site = Site {
             sulphur: 1,
             nitrogen: 2,
             ..own
         };
-        let sampled = sample(&site, &months).unwrap();
+        let sampled = sample(&site, &[], &months).unwrap();
         assert_eq!((sampled.sulphur, sampled.nitrogen), (500, 700));
-        assert_eq!(sampled.judgement, judge(&own).unwrap());
+        assert_eq!(sampled.judgement, judge(&own, &[]).unwrap());
     }
     let bad = Site {
         temperature: 26,
@@ -373,7 +380,7 @@ fn the_sampler_takes_both_kinds() {
     };
     months[0].sulphate = Reading::Missing;
     assert_eq!(
-        sample(&bad, &months).unwrap_err().to_string(),
+        sample(&bad, &[], &months).unwrap_err().to_string(),
         "refused 8 at 0"
     );
 }

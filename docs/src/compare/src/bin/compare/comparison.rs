@@ -1,8 +1,10 @@
 //! One answer held against the other.
 
 use crate::kinds::By;
+use crate::species::With;
 use crate::tally::{Source, Tally, PAGE};
 use compare::interface::{Call, CHECK, JUDGE, LEVEL, LIST, LOADS, PAGES, REPORT, REWRITE, SAMPLE};
+use compare::lists;
 use compare::random::Random;
 use forest::Site;
 use std::fmt::LowerHex;
@@ -14,37 +16,56 @@ use std::time::Duration;
 /// Longer than any listing, all pages of any file, and any record.
 const ROOM: usize = 64_000;
 
-#[derive(Default)]
 pub struct Comparison {
     pub passed: u64,
     pub failed: u64,
     pub tally: Tally,
+    /// A list of all species.
+    all: Vec<u8>,
 }
 
 impl Comparison {
-    /// A file through `forest_list`, `forest_pages` and `forest_report`.
-    pub fn file(&mut self, random: &mut Random, file: &[u8]) {
+    pub fn new(random: &mut Random) -> Comparison {
+        Comparison {
+            passed: 0,
+            failed: 0,
+            tally: Tally::default(),
+            all: lists::all(random),
+        }
+    }
+
+    /// A file with a list through `forest_list`, `forest_pages` and `forest_report`.
+    pub fn file(&mut self, random: &mut Random, file: &[u8], list: &[u8]) {
         let mut room = vec![0; ROOM];
-        let full = (LIST.reference)([file], &mut room);
+        let full = (LIST.reference)([file, list], &mut room);
+        let with_all = || (LIST.reference)([file, &self.all], &mut vec![0; ROOM]);
+        self.tally
+            .species
+            .lent(With::File, file, list, full, with_all);
         self.tally.kinds.records(By::List, file, full);
         for length in lengths(random, full) {
-            let result = self.call(random, &LIST, [file], length);
+            let result = self.call(random, &LIST, [file, list], length);
             self.tally.answer(Source::List, result);
+            // The header alone is longer.
+            if length < 51 {
+                let with_all = || (LIST.reference)([file, &self.all], &mut []);
+                self.tally.species.short(With::File, result, with_all);
+            }
         }
         let records = records(&room, full);
-        let full = (PAGES.reference)([file], &mut room);
+        let full = (PAGES.reference)([file, list], &mut room);
         // 60 records have more bytes than a page: a file that may take two gets a buffer of one too.
         let one_page = (file.len() > PAGE).then_some(PAGE);
         for length in lengths(random, full).into_iter().chain(one_page) {
-            let result = self.call(random, &PAGES, [file], length);
+            let result = self.call(random, &PAGES, [file, list], length);
             self.tally.pages(records, length, result);
             if result == full && full >> 32 == 0 {
                 self.tally.page_lines(&room[..full as usize]);
             }
         }
-        let full = (REPORT.reference)([file], &mut room);
+        let full = (REPORT.reference)([file, list], &mut room);
         for length in lengths(random, full) {
-            let result = self.call(random, &REPORT, [file], length);
+            let result = self.call(random, &REPORT, [file, list], length);
             if result == full {
                 self.tally.printed(Source::Report, &room[..full as usize]);
             } else {
@@ -53,52 +74,76 @@ impl Comparison {
         }
     }
 
-    /// A single record through `forest_rewrite`.
-    pub fn record(&mut self, random: &mut Random, record: &[u8]) {
-        let full = (REWRITE.reference)([record], &mut [0; 100]);
+    /// A single record with a list through `forest_rewrite`.
+    pub fn record(&mut self, random: &mut Random, record: &[u8], list: &[u8]) {
+        let full = (REWRITE.reference)([record, list], &mut [0; 104]);
+        let with_all = || (REWRITE.reference)([record, &self.all], &mut [0; 104]);
+        self.tally
+            .species
+            .lent(With::Record, record, list, full, with_all);
         self.tally.kinds.records(By::Rewrite, record, full);
         for length in lengths(random, full) {
-            let result = self.call(random, &REWRITE, [record], length);
+            let result = self.call(random, &REWRITE, [record, list], length);
             self.tally.answer(Source::Rewrite, result);
+            if length < 77 {
+                let with_all = || (REWRITE.reference)([record, &self.all], &mut []);
+                self.tally.species.short(With::Record, result, with_all);
+            }
         }
     }
 
-    /// A site value through `forest_check`, `forest_loads`, `forest_level` and `forest_judge`.
-    pub fn site(&mut self, random: &mut Random, value: &[u8]) {
-        let result = self.call(random, &CHECK, [value], 0);
-        self.tally.value(Source::Check, value, result);
+    /// A site value with a list through `forest_check`, `forest_loads`, `forest_level` and `forest_judge`.
+    pub fn site(&mut self, random: &mut Random, value: &[u8], list: &[u8]) {
+        let result = self.call(random, &CHECK, [value, list], 0);
+        self.tally.value(Source::Check, value, list, result);
 
         let length = random.pick(&[4, 4, 4, 5, 8, 3, 1, 0]);
-        let result = self.call(random, &LOADS, [value], length);
-        self.tally.value(Source::Loads, value, result);
+        let result = self.call(random, &LOADS, [value, list], length);
+        self.tally.value(Source::Loads, value, list, result);
 
         let length = random.pick(&[2, 2, 2, 3, 8, 1, 1, 0]);
-        let result = self.call(random, &LEVEL, [value], length);
-        self.tally.value(Source::Level, value, result);
+        let result = self.call(random, &LEVEL, [value, list], length);
+        self.tally.value(Source::Level, value, list, result);
         let mut numbers = [0; 2];
-        if (LEVEL.reference)([value], &mut numbers) == 2 {
+        if (LEVEL.reference)([value, list], &mut numbers) == 2 {
             self.tally.compared(numbers[1] as usize);
         }
 
         let length = random.pick(&[8, 8, 8, 9, 12, 7, 4, 0]);
-        let result = self.call(random, &JUDGE, [value], length);
-        self.tally.value(Source::Judge, value, result);
+        let result = self.call(random, &JUDGE, [value, list], length);
+        self.tally.value(Source::Judge, value, list, result);
+        if length < 8 {
+            let with_all = || (JUDGE.reference)([value, &self.all], &mut []);
+            self.tally.species.short(With::Value, result, with_all);
+        }
         let mut numbers = [0; 8];
-        if (JUDGE.reference)([value], &mut numbers) == 8 {
-            let site = Site::from_bytes(value).expect("50 or 51 bytes");
-            self.tally.judged(&site, &numbers);
+        let full = (JUDGE.reference)([value, list], &mut numbers);
+        let with_all = || (JUDGE.reference)([value, &self.all], &mut [0; 8]);
+        self.tally
+            .species
+            .lent(With::Value, value, list, full, with_all);
+        if full == 8 {
+            let site = Site::from_bytes(value).expect("a judged site");
+            self.tally.judged(&site, list, &numbers);
         }
     }
 
-    /// A site value and the months of its sampler through `forest_sample`.
-    pub fn sample(&mut self, random: &mut Random, value: &[u8], months: &[u8]) {
+    /// A site value with a list and the months of its sampler through `forest_sample`.
+    pub fn sample(&mut self, random: &mut Random, value: &[u8], list: &[u8], months: &[u8]) {
         let length = random.pick(&[10, 10, 10, 11, 14, 9, 8, 2, 0]);
-        let result = self.call(random, &SAMPLE, [value, months], length);
+        let result = self.call(random, &SAMPLE, [value, list, months], length);
+        self.tally.value(Source::Sample, value, list, result);
+        if length < 10 {
+            let with_all = || (SAMPLE.reference)([value, &self.all, months], &mut []);
+            self.tally.species.short(With::Months, result, with_all);
+        }
         let mut numbers = [0; 10];
-        let result_with_room = (SAMPLE.reference)([value, months], &mut numbers);
-        self.tally.value(Source::Sample, value, result);
+        let full = (SAMPLE.reference)([value, list, months], &mut numbers);
+        let with_all = || (SAMPLE.reference)([value, &self.all, months], &mut [0; 10]);
         self.tally
-            .sampled(value, months, result_with_room, &numbers);
+            .species
+            .lent(With::Months, value, list, full, with_all);
+        self.tally.sampled(value, list, months, full, &numbers);
     }
 
     /// Both sides of a call. Inputs and buffer are lent from the middle of random bytes, and all of the bytes around the
@@ -149,10 +194,10 @@ impl Comparison {
         reference
     }
 
-    /// A file through the program: all that it prints. With `pieces` the file is written bit by bit.
+    /// A file through the program, which lends an empty list: all that it prints. With `pieces` the file is written bit by bit.
     pub fn program(&mut self, random: &mut Random, path: &str, file: &[u8], pieces: bool) {
         let mut room = vec![0; ROOM];
-        let length = (REPORT.reference)([file], &mut room) as usize;
+        let length = (REPORT.reference)([file, &[]], &mut room) as usize;
         let expected = &room[..length];
         let pieces = if pieces {
             cut(random, file)

@@ -22,10 +22,11 @@ A1 735 205 1021 249 2 221 451 over
 B2 735 205 1021 249 0 0 0 within
 ";
 
-/// A1 in kind 53 at 5 °C below zero, where W is 67 and M 409, and B2 in kind 52.
-const LISTING_OF_BOTH_KINDS: &str = "id maxS minN maxN nutN region acidEx nutEx verdict
+/// A1 in kind 53 at 5 °C below zero, where W is 67 and M 409, B2 in kind 52, and A1 in kind 54 at 8 °C.
+const LISTING_OF_ALL_KINDS: &str = "id maxS minN maxN nutN region acidEx nutEx verdict
 A1 595 205 866 249 2 368 451 over
 B2 735 205 1021 249 0 0 0 within
+A1 735 205 1021 249 2 221 451 over
 ";
 
 fn bytes(hex: &str) -> Vec<u8> {
@@ -45,12 +46,22 @@ fn record_53(name: &str, pair: &str, temperature: &str) -> Vec<u8> {
     ))
 }
 
+/// A1 in kind 54 at 8 °C, with the two bytes of its species.
+fn record_54(species: &str) -> Vec<u8> {
+    let site = SITE.replace("070004 00", &format!("070005 {species}"));
+    bytes(&format!(
+        "540050 010002 4131 {site} 0F0004 01F402BC 100001 0D"
+    ))
+}
+
 pub fn compare(comparison: &mut Comparison, path: &str) {
     let a1 = record("4131", "01F402BC");
     let b2 = record("4232", "00C800F0");
     let cold = record_53("4131", "01F402BC", "00");
     let hot = record_53("4131", "01F402BC", "1A");
+    let (pine, overseas) = (record_54("0000"), record_54("0100"));
     assert_eq!((a1.len(), b2.len(), cold.len()), (78, 78, 82));
+    assert_eq!((pine.len(), overseas.len()), (83, 83));
     let both = [&a1[..], &b2].concat();
     let mut expect = |name: &str, (printed, ended): (Vec<u8>, bool), expected: &str| {
         comparison.expect(name, &printed, expected.as_bytes(), ended)
@@ -74,11 +85,18 @@ pub fn compare(comparison: &mut Comparison, path: &str) {
         drip(path, &both, both.len()),
         LISTING,
     );
-    let both_kinds = [&cold[..], &b2].concat();
+    let all_kinds = [&cold[..], &b2, &pine].concat();
     expect(
-        "both kinds, byte by byte",
-        drip(path, &both_kinds, 1),
-        LISTING_OF_BOTH_KINDS,
+        "all kinds, byte by byte",
+        drip(path, &all_kinds, 1),
+        LISTING_OF_ALL_KINDS,
+    );
+    // The program lends an empty list.
+    let lacking = [&pine[..], &overseas].concat();
+    expect(
+        "species 256",
+        drip(path, &lacking, lacking.len()),
+        "refused 16 at 113\n",
     );
     let too_hot = [&cold[..], &hot].concat();
     expect(

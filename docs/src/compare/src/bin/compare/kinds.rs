@@ -1,9 +1,13 @@
 //! How often each kind of record and of site value occurred, and each refusal in which they differ. That a site of kind 52
 //! counts as at 8 °C no bytes can show, since none of them carries a temperature: contracts and the forest's tests do.
 
-use forest::{judge, temperature_factor, Kind, Site, Terms, Verdict, EIGHT_DEGREES};
+use forest::{judge, temperature_factor, Entry, Kind, Site, Verdict, EIGHT_DEGREES};
 
-/// Who takes records of both kinds, or site values.
+pub const KIND_52: u8 = Kind::Tag52 as u8;
+pub const KIND_53: u8 = Kind::Tag53 as u8;
+pub const KIND_54: u8 = Kind::Tag54 as u8;
+
+/// Who takes records of all kinds, or site values.
 #[derive(Clone, Copy)]
 pub enum By {
     Rewrite,
@@ -11,43 +15,71 @@ pub enum By {
     Judge,
 }
 
-/// Refusals of records. Field 10 is that of kind 53; after 0F it stands in a record of kind 52.
-const REFUSALS: [&str; 10] = [
+/// Refusals of records. Field 10 is that of kinds 53 and 54; after 0F it stands in a record of kind 52.
+const REFUSALS: [&str; 24] = [
     "3 at tag 51",
-    "3 at tag 54",
+    "3 at tag 55",
     "3 at another tag",
-    "5 at field 10",
-    "6 for field 10",
-    "6 at the end, no 10",
-    "6 after field 10",
     "6 after 0F, field 10",
-    "7 at field 10",
-    "8 at field 10",
+    "53: 5 at field 10",
+    "53: 6 for field 10",
+    "53: 6 at the end, no 10",
+    "53: 6 after field 10",
+    "53: 7 at field 10",
+    "53: 8 at field 10",
+    "54: 5 at field 10",
+    "54: 6 for field 10",
+    "54: 6 at the end, no 10",
+    "54: 6 after field 10",
+    "54: 7 at field 10",
+    "54: 8 at field 10",
+    "52: 7, stand of fives",
+    "53: 7, stand of fives",
+    "54: 7, stand of fours",
+    "52: 7, five entries",
+    "53: 7, five entries",
+    "54: 7, five entries",
+    "54: 7, empty stand",
+    "54: 7, another length",
 ];
 
 /// Answers to site values.
-const VALUES: [&str; 6] = [
+const VALUES: [&str; 10] = [
     "50 bytes",
     "51 bytes",
+    "55 bytes",
     "7 for 49 bytes",
     "7 for 52 bytes",
+    "7 for 54 bytes",
+    "7 for 56 bytes",
     "7 for another length",
-    "8 by temperature",
+    "53: 8 by temperature",
+    "54: 8 by temperature",
+];
+
+/// Accepted files of several records, by which of the kinds 52, 53 and 54 they have.
+const FILES: [&str; 7] = [
+    "kind 52 alone",
+    "kind 53 alone",
+    "kinds 52 and 53",
+    "kind 54 alone",
+    "kinds 52 and 54",
+    "kinds 53 and 54",
+    "all three kinds",
 ];
 
 #[derive(Default)]
 pub struct Kinds {
     /// Accepted records and judged site values: by rewrite, list and judge.
-    kinds: [[u64; 3]; 2],
-    temperatures: [[u64; 3]; 26],
+    kinds: [[u64; 3]; 3],
+    /// Of kinds 53 and 54.
+    temperatures: [[[u64; 3]; 26]; 2],
     /// By rewrite and list.
     refusals: [[u64; 2]; REFUSALS.len()],
-    /// Accepted files of several records, of one kind and of both.
-    alone: [u64; 2],
-    mixed: u64,
+    files: [u64; FILES.len()],
     /// By check, loads, level, judge and sample.
     values: [[u64; 5]; VALUES.len()],
-    /// Of kind 53: W where rounding before t is applied gives another one, and a mark that is another at 8 °C.
+    /// Of kinds 53 and 54: W where rounding before t is applied gives another one, and a mark that is another at 8 °C.
     rounded_once: u64,
     within_by_t: u64,
     over_by_t: u64,
@@ -66,57 +98,60 @@ impl Kinds {
     }
 
     fn accepted(&mut self, by: By, file: &[u8]) {
-        let (mut at, mut of_52, mut of_53) = (0, 0, 0);
+        let (mut at, mut counts) = (0, [0; 3]);
         while at < file.len() {
             let end = end_of(file, at);
-            if file[at] == 0x52 {
-                of_52 += 1;
-            } else {
-                of_53 += 1;
-                self.temperatures[usize::from(file[end - 1])][by as usize] += 1;
+            let kind = usize::from(file[at] - KIND_52);
+            counts[kind] += 1;
+            self.kinds[kind][by as usize] += 1;
+            if kind > 0 {
+                self.temperatures[kind - 1][usize::from(file[end - 1])][by as usize] += 1;
             }
             at = end;
         }
-        self.kinds[0][by as usize] += of_52;
-        self.kinds[1][by as usize] += of_53;
-        match (of_52, of_53) {
-            (2.., 0) => self.alone[0] += 1,
-            (0, 2..) => self.alone[1] += 1,
-            (1.., 1..) => self.mixed += 1,
-            _ => {}
+        if counts.iter().sum::<u64>() > 1 {
+            let which: usize = (0..3)
+                .map(|kind| usize::from(counts[kind] > 0) << kind)
+                .sum();
+            self.files[which - 1] += 1;
         }
     }
 
     /// A site that was judged.
-    pub fn judged(&mut self, site: &Site) {
-        let by = By::Judge as usize;
-        if site.kind == Kind::Tag52 {
-            self.kinds[0][by] += 1;
+    pub fn judged(&mut self, site: &Site, list: &[u8]) {
+        let (by, kind) = (By::Judge as usize, usize::from(site.kind as u8 - KIND_52));
+        self.kinds[kind][by] += 1;
+        if kind == 0 {
             return;
         }
-        self.kinds[1][by] += 1;
-        self.temperatures[usize::from(site.temperature)][by] += 1;
+        self.temperatures[kind - 1][usize::from(site.temperature)][by] += 1;
         let mild = Site {
-            kind: Kind::Tag52,
+            temperature: EIGHT_DEGREES,
             ..*site
         };
-        let [w, mild_w] = [site, &mild].map(|site| Terms::of(site).weathering);
+        let weathering = |site| forest::terms(site, list).expect("a judged site").weathering;
+        let [w, mild_w] = [site, &mild].map(weathering);
         self.rounded_once += u64::from(w != mild_w * temperature_factor(site) / 1000);
-        let [within, mild_within] =
-            [site, &mild].map(|site| judge(site).map(|it| it.verdict) == Ok(Verdict::Within));
+        let is_within = |site| judge(site, list).expect("a judged site").verdict == Verdict::Within;
+        let [within, mild_within] = [site, &mild].map(is_within);
         self.within_by_t += u64::from(within && !mild_within);
         self.over_by_t += u64::from(mild_within && !within);
     }
 
-    /// The answer of check, loads, level, judge or sample, by their number, to a site value.
-    pub fn value(&mut self, call: usize, value: &[u8], result: u64) {
+    /// The answer of check, loads, level, judge or sample, by their number, to a site value with its list.
+    pub fn value(&mut self, call: usize, value: &[u8], list: &[u8], result: u64) {
         let row = match (result >> 32, value.len()) {
             (0, 50) => 0,
             (0, 51) => 1,
-            (7, 49) => 2,
-            (7, 52) => 3,
-            (7, length) if length != 50 && length != 51 => 4,
-            (8, 51) if too_hot_alone(value) => 5,
+            (0, 55) => 2,
+            (7, 50 | 51 | 55) => return,
+            (7, 49) => 3,
+            (7, 52) => 4,
+            (7, 54) => 5,
+            (7, 56) => 6,
+            (7, _) => 7,
+            (8, 51) if too_hot_alone(value, list) => 8,
+            (8, 55) if too_hot_alone(value, list) => 9,
             _ => return,
         };
         self.values[row][call] += 1;
@@ -124,10 +159,13 @@ impl Kinds {
 
     /// Accepted records and judged site values, by rewrite, list and judge.
     pub fn accepted_rows(&self) -> Vec<(String, [u64; 3])> {
-        let kinds = [52, 53].map(|kind| format!("kind {kind}"));
-        let temperatures = (0..).map(|byte| format!("kind 53, temperature {byte}"));
-        let rows = kinds.into_iter().zip(self.kinds);
-        rows.chain(temperatures.zip(self.temperatures)).collect()
+        let kinds = [52, 53, 54].map(|kind| format!("kind {kind}"));
+        let mut rows: Vec<_> = kinds.into_iter().zip(self.kinds).collect();
+        for (kind, temperatures) in [53, 54].into_iter().zip(self.temperatures) {
+            let names = (0..).map(|byte| format!("kind {kind}, temperature {byte}"));
+            rows.extend(names.zip(temperatures));
+        }
+        rows
     }
 
     /// Refusals of records, by rewrite and list.
@@ -144,15 +182,11 @@ impl Kinds {
 
     /// Files of several records.
     pub fn files(&self) -> Vec<(String, u64)> {
-        let files = [
-            ("kind 52 alone", self.alone[0]),
-            ("kind 53 alone", self.alone[1]),
-            ("both kinds", self.mixed),
-        ];
-        files.map(|(name, count)| (name.to_string(), count)).into()
+        let names = FILES.map(str::to_string);
+        names.into_iter().zip(self.files).collect()
     }
 
-    /// Judged sites of kind 53.
+    /// Judged sites of kinds 53 and 54.
     pub fn judged_rows(&self) -> Vec<(String, u64)> {
         let sites = [
             ("W, rounded once", self.rounded_once),
@@ -170,33 +204,46 @@ fn end_of(bytes: &[u8], at: usize) -> usize {
 
 /// The row of a refusal, where there is one.
 fn refusal(file: &[u8], rule: u64, offset: usize) -> Option<&'static str> {
-    match rule {
-        3 => Some(match file[offset] {
+    if rule == 3 {
+        return Some(match file[offset] {
             0x51 => "3 at tag 51",
-            0x54 => "3 at tag 54",
-            0x52 | 0x53 => return None,
+            0x55 => "3 at tag 55",
             _ => "3 at another tag",
-        }),
-        5..=8 => {
-            let (tag, fields, rest) = fault(file, offset);
-            Some(match (tag, fields, rule, rest) {
-                (0x52, 15, 6, [0x10, 0, 1, 0..=25]) => "6 after 0F, field 10",
-                (0x53, 15, 5, _) => "5 at field 10",
-                (0x53, 15, 6, []) => "6 at the end, no 10",
-                (0x53, 15, 6, _) => "6 for field 10",
-                (0x53, 15, 7, _) => "7 at field 10",
-                (0x53, 15, 8, _) => "8 at field 10",
-                (0x53, 16, 6, _) => "6 after field 10",
-                _ => return None,
-            })
-        }
-        _ => None,
+        });
     }
+    if !(5..=8).contains(&rule) {
+        return None;
+    }
+    let (tag, fields, rest) = fault(file, offset);
+    Some(match (tag, fields, rule, rest) {
+        (KIND_52, 15, 6, [0x10, 0, 1, 0..=25]) => "6 after 0F, field 10",
+        (KIND_53, 15, 5, _) => "53: 5 at field 10",
+        (KIND_53, 15, 6, []) => "53: 6 at the end, no 10",
+        (KIND_53, 15, 6, _) => "53: 6 for field 10",
+        (KIND_53, 15, 7, _) => "53: 7 at field 10",
+        (KIND_53, 15, 8, _) => "53: 8 at field 10",
+        (KIND_53, 16, 6, _) => "53: 6 after field 10",
+        (KIND_54, 15, 5, _) => "54: 5 at field 10",
+        (KIND_54, 15, 6, []) => "54: 6 at the end, no 10",
+        (KIND_54, 15, 6, _) => "54: 6 for field 10",
+        (KIND_54, 15, 7, _) => "54: 7 at field 10",
+        (KIND_54, 15, 8, _) => "54: 8 at field 10",
+        (KIND_54, 16, 6, _) => "54: 6 after field 10",
+        (KIND_52, 6, 7, [_, 0, 5 | 10 | 15, ..]) => "52: 7, stand of fives",
+        (KIND_53, 6, 7, [_, 0, 5 | 10 | 15, ..]) => "53: 7, stand of fives",
+        (KIND_54, 6, 7, [_, 0, 4 | 8 | 12 | 16, ..]) => "54: 7, stand of fours",
+        (KIND_52, 6, 7, [_, 0, 20, ..]) => "52: 7, five entries",
+        (KIND_53, 6, 7, [_, 0, 20, ..]) => "53: 7, five entries",
+        (KIND_54, 6, 7, [_, 0, 25, ..]) => "54: 7, five entries",
+        (KIND_54, 6, 7, [_, 0, 0, ..]) => "54: 7, empty stand",
+        (KIND_54, 6, 7, _) => "54: 7, another length",
+        _ => return None,
+    })
 }
 
 /// The record that is refused at an offset within it or at its end: its outer tag, how many fields stand before the
 /// offset, and its bytes from there.
-fn fault(file: &[u8], offset: usize) -> (u8, usize, &[u8]) {
+pub fn fault(file: &[u8], offset: usize) -> (u8, usize, &[u8]) {
     let mut start = 0;
     while end_of(file, start) < offset {
         start = end_of(file, start);
@@ -209,11 +256,31 @@ fn fault(file: &[u8], offset: usize) -> (u8, usize, &[u8]) {
     (file[start], fields, &file[offset..end_of(file, start)])
 }
 
-/// Whether the temperature of a site value of 51 bytes is its only fault.
-fn too_hot_alone(value: &[u8]) -> bool {
-    let at = |temperature| {
-        let value = [&value[..50], &[temperature]].concat();
-        Site::from_bytes(&value).and_then(|site| forest::check(&site))
+/// The entries of a field 07, with one byte for a species or with two.
+pub fn stand_in(field: &[u8], two: bool) -> Vec<Entry> {
+    let length = usize::from(field[2]);
+    let entries = field[3..3 + length].chunks_exact(if two { 5 } else { 4 });
+    let entry = |bytes: &[u8]| {
+        let (species, rest) = bytes.split_at(bytes.len() - 3);
+        Entry {
+            species: species
+                .iter()
+                .fold(0, |high, &low| 256 * high + u16::from(low)),
+            share: rest[0],
+            growth: u16::from_be_bytes([rest[1], rest[2]]),
+        }
     };
-    at(value[50]).is_err() && at(EIGHT_DEGREES).is_ok()
+    entries.map(entry).collect()
+}
+
+/// Whether the temperature of a site value of 51 or 55 bytes is its only fault.
+fn too_hot_alone(value: &[u8], list: &[u8]) -> bool {
+    let mut mild = value.to_vec();
+    mild[50] = EIGHT_DEGREES;
+    let passes = |value: &[u8]| {
+        Site::from_bytes(value)
+            .and_then(|site| forest::check(&site, list))
+            .is_ok()
+    };
+    !passes(value) && passes(&mild)
 }

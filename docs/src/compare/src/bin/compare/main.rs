@@ -3,11 +3,13 @@
 mod comparison;
 mod edges;
 mod kinds;
+mod lent;
 mod sampled;
+mod species;
 mod tally;
 
 use compare::random::Random;
-use compare::{files, months, sites};
+use compare::{files, lists, months, sites};
 use comparison::Comparison;
 use std::process::ExitCode;
 
@@ -47,44 +49,54 @@ fn main() -> ExitCode {
     println!("seed {}, scale {}", options.seed, options.scale);
     let scaled = |count: f64| (count * options.scale) as usize;
     let mut random = Random::new(options.seed);
-    let mut comparison = Comparison::default();
+    let mut comparison = Comparison::new(&mut random);
 
     let (sites, records, files) = (scaled(1_500_000.0), scaled(600_000.0), scaled(120_000.0));
     let years = scaled(600_000.0);
     for _ in 0..sites {
-        let value = sites::value(&mut random);
-        comparison.site(&mut random, &value);
+        let (value, list) = lists::with(&mut random, sites::value);
+        comparison.site(&mut random, &value, &list);
     }
     for _ in 0..records {
-        let record = files::record(&mut random);
-        comparison.record(&mut random, &record);
+        let (record, list) = lists::with(&mut random, files::record);
+        comparison.record(&mut random, &record, &list);
     }
     for _ in 0..files {
-        let file = files::file(&mut random);
-        comparison.file(&mut random, &file);
+        let (file, list) = lists::with(&mut random, files::file);
+        comparison.file(&mut random, &file, &list);
     }
-    for file in files::border_files(&mut random) {
-        comparison.file(&mut random, &file);
-    }
-    for file in files::page_border_files(&mut random) {
-        comparison.file(&mut random, &file);
+    // Files of the table's species, and of a list's: with the list, with one that lacks all, and with a bad one.
+    let all = lists::all(&mut random);
+    let bad = &all[..all.len() - 1];
+    for (held, lent) in [(&[][..], &[][..]), (&all, &all), (&all, &[]), (&all, bad)] {
+        for file in files::border_files(&mut random, held) {
+            comparison.file(&mut random, &file, lent);
+        }
+        for file in files::page_border_files(&mut random, held) {
+            comparison.file(&mut random, &file, lent);
+        }
     }
     for _ in 0..years {
-        let (value, months) = months::sampled_site(&mut random);
-        comparison.sample(&mut random, &value, &months);
+        let ((value, months), list) = lists::with(&mut random, months::sampled_site);
+        comparison.sample(&mut random, &value, &list, &months);
     }
     println!("{sites} site values, {records} single records, {files} files, {years} years");
 
     if let Some(path) = &options.program {
         let runs = scaled(1000.0);
         for index in 0..runs {
+            // Most files have species of the table alone.
+            let list = match index % 8 {
+                0 => lists::good(&mut random),
+                _ => Vec::new(),
+            };
             let file = match index % 20 {
-                0 => files::long_file(&mut random),
-                _ => files::file(&mut random),
+                0 => files::long_file(&mut random, &list),
+                _ => files::file(&mut random, &list),
             };
             comparison.program(&mut random, path, &file, index % 3 == 0);
         }
-        for file in files::border_files(&mut random) {
+        for file in files::border_files(&mut random, &[]) {
             comparison.program(&mut random, path, &file, false);
             comparison.program(&mut random, path, &file, true);
         }

@@ -53,12 +53,20 @@ pub struct Sampled {
 }
 
 impl Sampled {
-    /// A site value of 50 or 51 bytes with its months: the result in a buffer with room, and the numbers there.
-    pub fn count(&mut self, site: &Site, months: &[u8], result: u64, numbers: &[u64; 10]) {
+    /// A site value of a length that is permitted with a good list and its months: the result in a buffer with room, and the
+    /// numbers there.
+    pub fn count(
+        &mut self,
+        site: &Site,
+        list: &[u8],
+        months: &[u8],
+        result: u64,
+        numbers: &[u64; 10],
+    ) {
         let (rule, offset) = (result >> 32, result as u32 as usize);
         let bytes = months;
         let months = forest::months_from_bytes(bytes);
-        match (forest::judge(site), months) {
+        match (forest::judge(site, list), months) {
             (Err(_), Ok(months)) if forest::year(&months).is_ok() => {}
             (Err(_), _) => self.site_first += 1,
             (Ok(_), Err(_)) => self.months_length += 1,

@@ -2,8 +2,9 @@
 
 use crate::kinds::Kinds;
 use crate::sampled::Sampled;
+use crate::species::Species;
 use compare::files::PAGE_BORDERS;
-use forest::{Site, Terms};
+use forest::{terms, Site, Terms};
 use std::ops::RangeInclusive;
 
 #[derive(Clone, Copy)]
@@ -21,17 +22,17 @@ pub enum Source {
 }
 
 /// The sources, and the rules that each can refuse by.
-const SOURCES: [(&str, RangeInclusive<usize>); 10] = [
-    ("list", 1..=11),
-    ("pages", 1..=11),
-    ("report", 1..=11),
-    ("rewrite", 1..=11),
-    ("check", 7..=10),
-    ("loads", 7..=11),
-    ("level", 7..=11),
-    ("judge", 7..=11),
-    ("sample", 7..=14),
-    ("program", 1..=10),
+const SOURCES: [(&str, [RangeInclusive<usize>; 2]); 10] = [
+    ("list", [1..=11, 15..=16]),
+    ("pages", [1..=11, 15..=16]),
+    ("report", [1..=11, 15..=16]),
+    ("rewrite", [1..=11, 15..=16]),
+    ("check", [7..=10, 15..=16]),
+    ("loads", [7..=11, 15..=16]),
+    ("level", [7..=11, 15..=16]),
+    ("judge", [7..=11, 15..=16]),
+    ("sample", [7..=14, 15..=16]),
+    ("program", [1..=10, 16..=16]),
 ];
 
 const PARENT_MATERIALS: [&str; 5] = ["organic", "acidic", "intermediate", "basic", "calcareous"];
@@ -59,12 +60,12 @@ const COMPARED: [usize; 10] = [1, 6, 7, 8, 9, 10, 11, 12, 13, 14];
 /// The bytes of a full page.
 pub const PAGE: usize = 60 * 65;
 /// The bytes of a full page's records at most: a fault from here on is one after a page.
-const PAGE_RECORDS: usize = 59 * 100;
+const PAGE_RECORDS: usize = 59 * 104;
 
 #[derive(Default)]
 pub struct Tally {
     /// By source, then by rule; 0 stands for success.
-    answers: [[u64; 15]; 10],
+    answers: [[u64; 17]; 10],
     /// By judge, by lines of listings, by lines of pages and by sample, as the next three.
     regions: [[u64; 5]; 4],
     within: [u64; 4],
@@ -82,13 +83,14 @@ pub struct Tally {
     peat: [u64; 6],
     peat_regions: [u64; 5],
     peat_within_by_800: u64,
-    species: [u64; 9],
+    table: [u64; 9],
     hydrogen_bound: u64,
     aluminium_bound: u64,
     /// By how many levels were compared.
     compared: [u64; 15],
     sampled: Sampled,
     pub kinds: Kinds,
+    pub species: Species,
 }
 
 impl Tally {
@@ -96,11 +98,11 @@ impl Tally {
         self.answers[source as usize][(result >> 32) as usize] += 1;
     }
 
-    /// The answer of one of the calls from check to sample to a site value.
-    pub fn value(&mut self, source: Source, value: &[u8], result: u64) {
+    /// The answer of one of the calls from check to sample to a site value with its list.
+    pub fn value(&mut self, source: Source, value: &[u8], list: &[u8], result: u64) {
         self.answer(source, result);
         let call = source as usize - Source::Check as usize;
-        self.kinds.value(call, value, result);
+        self.kinds.value(call, value, list, result);
     }
 
     /// What is to be printed for a file: a listing or the line of a refusal.
@@ -155,9 +157,9 @@ impl Tally {
         }
     }
 
-    /// A site that was judged, with the numbers of `forest_judge`.
-    pub fn judged(&mut self, site: &Site, numbers: &[u64]) {
-        let terms = Terms::of(site);
+    /// A site that was judged with a list, with the numbers of `forest_judge`.
+    pub fn judged(&mut self, site: &Site, list: &[u8], numbers: &[u64]) {
+        let terms = terms(site, list).expect("a judged site");
         self.verdict(JUDGE, numbers[4] as usize, numbers[7] == 1);
         self.parent_materials[usize::from(site.parent_material)] += 1;
         self.drainages[usize::from(site.drainage)] += 1;
@@ -168,14 +170,17 @@ impl Tally {
             self.peat_within_by_800 += u64::from(numbers[7] == 0 && over);
         }
         for entry in &site.stand[..usize::from(site.entries)] {
-            self.species[usize::from(entry.species)] += 1;
+            if let Some(count) = self.table.get_mut(usize::from(entry.species)) {
+                *count += 1;
+            }
         }
         if terms.level == i64::from(site.hydrogen_ceiling) {
             self.hydrogen_bound += 1;
         } else {
             self.aluminium_bound += 1;
         }
-        self.kinds.judged(site);
+        self.kinds.judged(site, list);
+        self.species.judged(site, list);
     }
 
     /// A site at which so many levels were compared.
@@ -183,15 +188,21 @@ impl Tally {
         self.compared[levels] += 1;
     }
 
-    /// A site value with its sampler's months: the result in a buffer with room, and the numbers there.
-    pub fn sampled(&mut self, value: &[u8], months: &[u8], result: u64, numbers: &[u64; 10]) {
+    /// A site value with its list and its sampler's months: the result in a buffer with room, and the numbers there.
+    pub fn sampled(
+        &mut self,
+        value: &[u8],
+        list: &[u8],
+        months: &[u8],
+        result: u64,
+        numbers: &[u64; 10],
+    ) {
         if result == 10 {
             self.verdict(SAMPLE, numbers[6] as usize, numbers[9] == 1);
         }
-        let Ok(site) = Site::from_bytes(value) else {
-            return;
-        };
-        self.sampled.count(&site, months, result, numbers);
+        if let (Ok(()), Ok(site)) = (forest::check_list(list), Site::from_bytes(value)) {
+            self.sampled.count(&site, list, months, result, numbers);
+        }
     }
 
     /// Prints the counts and returns how many kinds are due and never occurred.
@@ -202,13 +213,14 @@ impl Tally {
         print!("{:<24}", "");
         sources.iter().for_each(|(name, _)| print!("{name:>10}"));
         println!();
-        for rule in 0..=14 {
+        for rule in 0..=16 {
             match rule {
                 0 => print!("{:<24}", "success"),
                 _ => print!("{:<24}", format!("refusal {rule}")),
             }
             for ((_, rules), answers) in sources.iter().zip(&self.answers) {
-                absent += cell(answers[rule], rule == 0 || rules.contains(&rule));
+                let is_due = rule == 0 || rules.iter().any(|rules| rules.contains(&rule));
+                absent += cell(answers[rule], is_due);
             }
             println!();
         }
@@ -235,10 +247,11 @@ impl Tally {
         kinds.extend(numbered("peat, drainage", &self.peat));
         kinds.extend(numbered("peat, region", &self.peat_regions));
         kinds.push((named("peat, within by 800"), self.peat_within_by_800));
-        kinds.extend(SPECIES.map(named).into_iter().zip(self.species));
+        kinds.extend(SPECIES.map(named).into_iter().zip(self.table));
         kinds.push((named("hydrogen-bound"), self.hydrogen_bound));
         kinds.push((named("aluminium-bound"), self.aluminium_bound));
         kinds.extend(self.kinds.judged_rows());
+        kinds.extend(self.species.judged_rows());
         absent += column("judge", kinds);
 
         absent += table(["rewrite", "list", "judge"], self.kinds.accepted_rows());
@@ -246,6 +259,9 @@ impl Tally {
         absent += table(["rewrite", "list"], self.kinds.refusal_rows());
         let calls = ["check", "loads", "level", "judge", "sample"];
         absent += table(calls, self.kinds.value_rows());
+
+        absent += table(Species::WITH, self.species.rows());
+        absent += self.orders();
 
         let compared =
             COMPARED.map(|levels| (format!("compared: {levels}"), self.compared[levels]));
@@ -258,6 +274,22 @@ impl Tally {
         kinds.push((named("fault after a page"), self.fault_after_a_page));
         absent += column("pages", kinds);
         absent + column("sample", self.sampled.kinds())
+    }
+
+    /// Two faults of which one comes first, by what is lent with the list.
+    fn orders(&self) -> u64 {
+        let mut absent = 0;
+        print!("\n{:<24}", "");
+        Species::WITH.iter().for_each(|title| print!("{title:>10}"));
+        println!();
+        for (name, counts) in self.species.orders() {
+            print!("{name:<24}");
+            for (count, is_due) in counts {
+                absent += cell(count, is_due);
+            }
+            println!();
+        }
+        absent
     }
 }
 
