@@ -5,7 +5,6 @@ use native.Mathlib.Omega.{arith}
 use native.Mathlib.Nat.{mod-eq_of_lt}
 use Rattle.std.specs.Prelude.{Ok, Err}
 use Rattle.site.specs.Refusal.{rule_number}
-use Rattle.site.specs.declared.Refusal.{Refusal}
 use Rattle.site.specs.declared.Rule.{Rule}
 use Rattle.site.specs.declared.Rule.TheVariants.{NoBytes, OuterCut, OuterTag, TooMany, InnerCut, InnerTag, BadLength, OutOfRange, NotRising, SharesNotWhole, BufferShort, BadConcentration, NoReading, PairTooLarge, BadList, NotListed}
 use Rattle.output.specs.Output.{Written}
@@ -39,8 +38,10 @@ count_below (Err k) e h = absurd (omega (arith, (number_range k.rule).0))
 -- what the number says of an answer that it has room for
 pub decodes : (answer : Written) {l : Written} {r : ℕ} → l ≡ answer → r ≡ written_code l → Small l → Decodes answer r
 unfolding written_code
-decodes answer {l} is e small = rw is at (record {
-  below = count_below l e;
-  count = λ n q. (rw q at e, rw (rw q at e) (small.count n q));
-  refusal = λ k q. (rw q at e ∙ rw (mod-eq_of_lt (small.offset k q)), small.offset k q);
-})
+decodes answer {l} {r} is e small =
+    let made : Decodes l r = record {
+      below = count_below l e;
+      count = λ n q. (rw q at e, rw (rw q at e) (small.count n q));
+      refusal = λ k q. (rw q at e ∙ rw (mod-eq_of_lt (small.offset k q)), small.offset k q);
+    } in
+    rw is at made

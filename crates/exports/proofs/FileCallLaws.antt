@@ -1,9 +1,9 @@
 -- What the listing, the report and the pages of a file are with a list that is lent, and what they give to C.
 use Prim.Native.Nat.{ℕ, ◌<◌}
-use mathlib.Core.Path.{◌≡◌, refl, sym, ap, ◌∙◌}
+use mathlib.Core.Path.{◌≡◌, sym, ◌∙◌}
 use mathlib.Core.List.{List}
 use native.Mathlib.Omega.{arith}
-use lib.ListN.{length, take}
+use lib.ListN.{take}
 use Rattle.site.specs.SpeciesList.{list_rule, list_fault}
 use Rattle.site.specs.declared.Site.{Site}
 use Rattle.std.specs.Prelude.{Ok, Err}
@@ -19,7 +19,7 @@ use Rattle.listing.specs.Reports.{printed, report_of}
 use Rattle.listing.specs.PrintedDemand3.{WrittenSays, WrittenDemand3}
 use Rattle.listing.proofs.ListLaws.{file_count, file_fault_near}
 use Rattle.exports.specs.Codes.{code_base, written_code, Small}
-use Rattle.exports.specs.Lent.{lent, lent_contents, lent_report, LentSays}
+use Rattle.exports.specs.Lent.{lent_contents, lent_report, LentSays}
 use Rattle.exports.proofs.CodeLaws.{count_below}
 use Rattle.exports.proofs.LentLaws.{lent_good, lent_bad}
 
@@ -40,12 +40,12 @@ module _ (most : ℕ) (text : List Site → List ℕ) (Say : List ℕ → List S
       record {
         answer = rw is;
         buffer = rw is;
-        small = record { count = λ n q. cc; offset = λ k q. by_place k q };
+        small = record { count = λ n q. cc; offset = λ k q. near at q };
         demand3 = λ good n q. cc;
       }
     where
-      by_place : (k : Refusal) → ◌≡◌ {A = Written} (Err _) (Err k) → k.at < code_base
-      by_place k q = let z : _ ≡ k = cc in rw (← z) (omega (arith, at, fault_near list))
+      near : {j k : Refusal} → j.at ≡ list_fault list → ◌≡◌ {A = Written} (Err j) (Err k) → k.at < code_base
+      near {j} {k} place q = let z : j ≡ k = cc in rw (← z) (omega (arith, place, fault_near list))
 
   pub filed : {e : List ℕ} {l : Written} → list_rule list ≡ Ok tt → most < code_base
       → l ≡ file_answer text (contents list f) d → e ≡ file_held text (contents list f) d → WrittenSays Say list f e l → FileRoom most text (contents list f) d l → Filed e l

@@ -3,7 +3,7 @@ use Prim.Native.Nat.{ℕ, ◌≤◌, ◌<◌}
 use mathlib.Core.Path.{◌≡◌, refl, sym, ap, ◌∙◌, subst}
 use mathlib.Core.List.{List, [], ◌∷◌, ◌++◌}
 use native.Mathlib.Omega.{arith}
-use lib.ListN.{length, get_or, take, drop}
+use lib.ListN.{length, get_or, take}
 use borrow.Author.Tests.{eq-eqb, ne_eqb}
 use Rattle.std.specs.Prelude.{Result, Ok, Err}
 use Rattle.site.specs.Bytes.{tabulate}
@@ -23,53 +23,57 @@ use Rattle.judgement.specs.declared.Verdict.TheVariants.{Within, Over}
 use Rattle.judgement.specs.declared.Judged.{Judged}
 use Rattle.judgement.specs.Verdicts.{verdict_numbers}
 use Rattle.judgement.proofs.JudgementAnswers.{judgement_given}
-use Rattle.output.specs.Output.{Written, held_after}
-use Rattle.output.proofs.OutputLaws.{count_is, refused_at_0}
+use Rattle.output.specs.Output.{Written}
 use Rattle.readings.specs.MonthBytes.{months_in}
-use Rattle.sampler.specs.SampleAnswers.{with_pair, ByKey, sample_answer}
+use Rattle.sampler.specs.SampleAnswers.{with_pair, year_answer, ByKey, sample_answer}
+use Rattle.sampler.specs.YearPair.{year_of}
 use Rattle.sampler.specs.declared.Month.{Month}
 use Rattle.sampler.specs.declared.Pair.{Pair}
 use Rattle.sampler.specs.declared.Sampled.{Sampled}
 use Rattle.sampler.proofs.SampleLaws.{pair_rule, pair_terms, sample_given, checked_at, year_at}
-use Rattle.exports.specs.Codes.{code_base, written_code, Decodes}
-use Rattle.exports.specs.Numbers.{numbers_written, numbers_held}
+use Rattle.exports.specs.Codes.{code_base, written_code, Small}
 use Rattle.exports.specs.Layout.{site_in, value_length, value_check, site_load_numbers, mark_number, verdict_marked, judged_numbers, judgement_numbers}
 use Rattle.exports.specs.Samples.{months_length, sample_in, sampled_numbers, sampled, sample_written, sample_held, NumbersByKey}
-use Rattle.exports.proofs.CodeLaws.{decodes, count_below}
-use Rattle.exports.proofs.SiteValueLaws.{wrong_length, as_site, value_passes, counted_passed, length_marked, mark_tells, mark_at}
+use Rattle.exports.proofs.CodeLaws.{count_below}
+use Rattle.exports.proofs.LentLaws.{lent_ok, lent_at}
+use Rattle.exports.proofs.SiteValueLaws.{wrong_length, as_site, value_passes, numbers_small, InPlace, in_place, length_marked, mark_tells, mark_at}
 
 -- ---- the bytes
 
-module _ (b m : List ℕ) where
+module _ (b list m : List ℕ) where
+  -- what follows the list's check
+  abbrev pub sample_listed : Result Sampled Refusal
+  sample_listed = unless (value_check list b) 0 (unless (months_length m) 0 (year_answer list (site_in b) (year_of (months_in m))))
+
   -- the checks of the site come before the length of the months
-  pub months_length_lem : value_length b ≡ Ok tt → (length m ≡ 204 → ⊥) → sample_in b m ≡ unless (site_rule (site_in b)) 0 (Err (record { rule = BadLength; at = 0 }))
-  unfolding sample_in months_length unless
-  months_length_lem h n = rw (as_site b h, ne_eqb (length m) 204 n)
+  pub months_length_lem : value_length b ≡ Ok tt → (length m ≡ 204 → ⊥) → sample_listed ≡ unless (site_rule list (site_in b)) 0 (Err (record { rule = BadLength; at = 0 }))
+  unfolding months_length unless
+  months_length_lem h n = rw (as_site list b h, ne_eqb (length m) 204 n)
 
-  pub site_length : (length b ≡ 50 → ⊥) → (length b ≡ 51 → ⊥) → sample_in b m ≡ Err (record { rule = BadLength; at = 0 })
-  unfolding sample_in unless
-  site_length h i = rw (wrong_length b h i)
+  pub site_length : (length b ≡ 50 → ⊥) → (length b ≡ 51 → ⊥) → (length b ≡ 55 → ⊥) → sample_listed ≡ Err (record { rule = BadLength; at = 0 })
+  unfolding unless
+  site_length h i j = rw (wrong_length list b h i j)
 
-  pub both_whole : value_length b ≡ Ok tt → length m ≡ 204 → sample_in b m ≡ sample_answer (site_in b) (months_in m)
-  unfolding sample_in months_length sample_answer unless
-  both_whole h n = rw (as_site b h, eq-eqb (length m) 204 n)
+  pub both_whole : value_length b ≡ Ok tt → length m ≡ 204 → sample_listed ≡ sample_answer list (site_in b) (months_in m)
+  unfolding months_length sample_answer unless
+  both_whole h n = rw (as_site list b h, eq-eqb (length m) 204 n)
 
   twelve : length (months_in m) ≡ 12
   unfolding tabulate
   twelve = refl
 
   -- a refusal's offset is small
-  at_most_12 : (r : Refusal) → sample_in b m ≡ Err r → r.at ≤ 12
+  pub sample_at : (r : Refusal) → sample_in b list m ≡ Err r → r.at ≤ 7680
   unfolding sample_in
-  at_most_12 = checked_at (value_check b) _ (checked_at (months_length m) _ (year_at (site_in b) (months_in m) twelve))
+  sample_at = lent_at list sample_listed (λ r e. (let z = checked_at (value_check list b) _ (checked_at (months_length m) _ (year_at list (site_in b) (months_in m) twelve)) r e in omega arith)) (omega arith)
 
   -- what is given is the call's own answer for the site and the months
-  whole_given : (p : Sampled) → sample_in b m ≡ Ok p → (site_rule (site_in b) ≡ Ok tt) × ByKey (site_in b) (months_in m) p
+  whole_given : (p : Sampled) → sample_in b list m ≡ Ok p → (site_rule list (site_in b) ≡ Ok tt) × ByKey list (site_in b) (months_in m) p
   unfolding sample_in unless sample_answer
   whole_given p e =
-      let c = unless_ok (value_check b) 0 _ e in
+      let c = unless_ok (value_check list b) 0 _ (lent_ok list sample_listed e).1 in
       let d = unless_ok (months_length m) 0 _ c.1 in
-      sample_given (site_in b) (months_in m) p (passing (site_rule (site_in b)) (value_passes b c.0) d.1)
+      sample_given list (site_in b) (months_in m) p (passing (site_rule list (site_in b)) (value_passes list b c.0) d.1)
     where
       passing : (k : Checked) → k ≡ Ok tt → {a : Result Sampled Refusal} → a ≡ Ok p → unless k 0 a ≡ Ok p
       passing k f g = rw (f, g)
@@ -84,27 +88,27 @@ eight j rest = ap (λ (xs : List ℕ). load_numbers j.loads ++ xs) (go j.verdict
     go Within = refl
     go (Over r x y) = refl
 
-module _ (s : Site) (q : Pair) where
+module _ (list : List ℕ) (s : Site) (q : Pair) where
   -- the judgement of the site with the pair
-  of_pair : judged_numbers (judged_of (with_pair s q)) ≡ judgement_numbers (with_pair s q)
+  of_pair : judged_numbers (judged_of list (with_pair s q)) ≡ judgement_numbers list (with_pair s q)
   unfolding judged_numbers judgement_numbers site_load_numbers judged_of
   of_pair = refl
 
-  marked : site_rule s ≡ Ok tt → Tells 0 1 (mark_number (judged_of (with_pair s q)).verdict) (terms_of s) q.sulphur q.nitrogen
+  marked : site_rule list s ≡ Ok tt → Tells 0 1 (mark_number (judged_of list (with_pair s q)).verdict) (terms_of list s) q.sulphur q.nitrogen
   unfolding judged_of with_pair
   marked p =
-      subst (λ (t : Terms). Tells 0 1 (mark_number (judged_of (with_pair s q)).verdict) t q.sulphur q.nitrogen) (pair_terms s q) (mark_tells (with_pair s q) (pair_rule s q ∙ p))
+      subst (λ (t : Terms). Tells 0 1 (mark_number (judged_of list (with_pair s q)).verdict) t q.sulphur q.nitrogen) (pair_terms list s q) (mark_tells list (with_pair s q) (pair_rule list s q ∙ p))
 
-module _ (s : Site) (ms : List Month) (p : Sampled) (given : (site_rule s ≡ Ok tt) × ByKey s ms p) (rest : List ℕ) where
-  is_judged : p.judged ≡ judged_of (with_pair s p.pair)
-  is_judged = (judgement_given _ _ given.1.judgement).1
+module _ (list : List ℕ) (s : Site) (ms : List Month) (p : Sampled) (given : (site_rule list s ≡ Ok tt) × ByKey list s ms p) (rest : List ℕ) where
+  is_judged : p.judged ≡ judged_of list (with_pair s p.pair)
+  is_judged = (judgement_given _ _ _ given.1.judgement).1
 
-  numbers_by_key : take 8 (judged_numbers p.judged ++ rest) ≡ judgement_numbers (with_pair s p.pair)
-  numbers_by_key = eight p.judged rest ∙ ap judged_numbers is_judged ∙ of_pair s p.pair
+  numbers_by_key : take 8 (judged_numbers p.judged ++ rest) ≡ judgement_numbers list (with_pair s p.pair)
+  numbers_by_key = eight p.judged rest ∙ ap judged_numbers is_judged ∙ of_pair list s p.pair
 
-  mark_by_key : Tells 0 1 (get_or (judged_numbers p.judged ++ rest) 7 0) (terms_of s) p.pair.sulphur p.pair.nitrogen
+  mark_by_key : Tells 0 1 (get_or (judged_numbers p.judged ++ rest) 7 0) (terms_of list s) p.pair.sulphur p.pair.nitrogen
   unfolding judged_numbers load_numbers
-  mark_by_key = rw (mark_at p.judged.verdict rest, is_judged) (marked s p.pair given.0)
+  mark_by_key = rw (mark_at p.judged.verdict rest, is_judged) (marked list s p.pair given.0)
 
 -- the eight numbers, one by one
 abbrev pub elements : List ℕ → List ℕ
@@ -128,48 +132,49 @@ length_sampled p = omega (arith, length_marked p.judged.verdict)
 
 -- ---- the call
 
-module _ (b m old : List ℕ) where
+module _ (b list m old : List ℕ) where
   abbrev answer : Written
-  answer = sample_written (sample_in b m) (length old)
+  answer = sample_written (sample_in b list m) (length old)
 
-  small : (a : Result Sampled Refusal) → {n : ℕ} → sample_written a (length old) ≡ Ok n → n < code_base
-  unfolding sampled numbers_written
-  small (Ok p) q = omega (arith, count_is _ _ q, length_sampled p)
-  small (Err r) q = cc
+  few : (a : Result Sampled Refusal) (xs : List ℕ) → sampled a ≡ Ok xs → length xs < code_base
+  unfolding sampled
+  few (Ok p) xs e = let z : sampled_numbers p ≡ xs = cc in rw (← z) (omega (arith, length_sampled p))
+  few (Err r) xs e = cc
 
-  near : (a : Result Sampled Refusal) → sample_in b m ≡ a → {k : Refusal} → sample_written a (length old) ≡ Err k → k.at < code_base
-  unfolding sampled numbers_written
-  near (Ok p) e q = omega (arith, refused_at_0 _ _ q)
-  near (Err r) e {k} q = let same : r ≡ k = cc in rw (← same) (omega (arith, at_most_12 b m r e))
+  near : (a : Result Sampled Refusal) → sample_in b list m ≡ a → (r : Refusal) → sampled a ≡ Err r → r.at < code_base
+  unfolding sampled
+  near (Ok p) is r e = cc
+  near (Err k) is r e = let same : k ≡ r = cc in rw (← same) (omega (arith, sample_at b list m k is))
 
-  pub sample_decodes : {r : ℕ} → r ≡ written_code answer → Decodes answer r
-  sample_decodes e = decodes answer e (λ n q. small (sample_in b m) q) (λ k q. near (sample_in b m) refl q)
+  pub sample_small : {l : Written} → l ≡ answer → Small l
+  sample_small = numbers_small old (sampled (sample_in b list m)) (few (sample_in b list m)) (near (sample_in b list m) refl)
 
   -- where ten numbers were written, they are those that were given
-  record InPlace (a : Result Sampled Refusal) (new : List ℕ) : Type 0 where
+  record TenGiven (new : List ℕ) : Type 0 where
     sample : Sampled
     rest : List ℕ
-    is : a ≡ Ok sample
+    is : sample_in b list m ≡ Ok sample
     front : new ≡ sampled_numbers sample ++ rest
 
-  in_place : (a : Result Sampled Refusal) {new : List ℕ} → sample_written a (length old) ≡ Ok 10 → new ≡ sample_held a old → InPlace a new
-  unfolding sampled numbers_written numbers_held held_after
-  in_place (Ok p) e h =
-      let room = counted_passed _ _ e in
-      record { sample = p; rest = drop (length (sampled_numbers p)) old; is = refl; front = rw room at h }
-  in_place (Err r) e h = cc
+  ten_given : {new : List ℕ} → InPlace old (sampled (sample_in b list m)) new → TenGiven new
+  unfolding sampled
+  ten_given {new} place = go (sample_in b list m) refl place.is
+    where
+      go : (a : Result Sampled Refusal) → sample_in b list m ≡ a → sampled a ≡ Ok place.numbers → TenGiven new
+      go (Ok p) is e = let z : sampled_numbers p ≡ place.numbers = cc in record { sample = p; rest = place.rest; is = is; front = rw z place.front }
+      go (Err r) is e = cc
 
-  module _ {r : ℕ} {new : List ℕ} (code : r ≡ written_code answer) (held : new ≡ sample_held (sample_in b m) old) (ten : r ≡ 10) where
-    place : InPlace (sample_in b m) new
-    place = in_place (sample_in b m) (count_below answer (sym ten ∙ code) (omega arith)) held
+  module _ {r : ℕ} {new : List ℕ} (code : r ≡ written_code answer) (held : new ≡ sample_held (sample_in b list m) old) (ten : r ≡ 10) where
+    place : TenGiven new
+    place = ten_given (in_place old (sampled (sample_in b list m)) (count_below answer (sym ten ∙ code) (omega arith)) held)
 
-    given : (site_rule (site_in b) ≡ Ok tt) × ByKey (site_in b) (months_in m) place.sample
-    given = whole_given b m place.sample place.is
+    given_by : (site_rule list (site_in b) ≡ Ok tt) × ByKey list (site_in b) (months_in m) place.sample
+    given_by = whole_given b list m place.sample place.is
 
-    pub by_key : NumbersByKey b m new
+    pub by_key : NumbersByKey b list m new
     unfolding sampled_numbers
-    by_key = rw place.front (record { pair = given.1.pair; judgement = numbers_by_key (site_in b) (months_in m) place.sample given place.rest })
+    by_key = rw place.front (record { pair = given_by.1.pair; judgement = numbers_by_key list (site_in b) (months_in m) place.sample given_by place.rest })
 
-    pub mark_says : Tells 0 1 (get_or new 9 0) (terms_of (site_in b)) (get_or new 0 0) (get_or new 1 0)
+    pub mark_says : Tells 0 1 (get_or new 9 0) (terms_of list (site_in b)) (get_or new 0 0) (get_or new 1 0)
     unfolding sampled_numbers
-    mark_says = rw place.front (mark_by_key (site_in b) (months_in m) place.sample given place.rest)
+    mark_says = rw place.front (mark_by_key list (site_in b) (months_in m) place.sample given_by place.rest)

@@ -12,6 +12,7 @@ use Rattle.site.specs.declared.RecordKind.TheVariants.{Tag52, Tag53, Tag54}
 use Rattle.site.specs.Kinds.{reference_temperature}
 use Rattle.site.specs.declared.Site.{Site}
 use Rattle.site.specs.declared.Entry.{Entry}
+use Rattle.site.specs.declared.Stand.{Stand}
 use Rattle.site.specs.declared.Refusal.{Refusal}
 use Rattle.site.specs.declared.Rule.TheVariants.{BadLength}
 use Rattle.exports.specs.Lent.{lent}
@@ -26,6 +27,9 @@ use Rattle.judgement.specs.Verdicts.{verdict, verdict_numbers}
 unfoldable pub entry_in : List ℕ → ℕ → Entry
 entry_in b i = record (narrow_entry b (16 + 4 * i)) { species = word_of (get_or b (51 + i) 0) (get_or b (16 + 4 * i) 0) }
 
+abbrev pub stand_in : List ℕ → Stand
+stand_in b = record { entries = tabulate 4 (λ i. entry_in b i); count = get_or b 32 0 }
+
 -- the bytes as a value of kind k; where there is no temperature, that of 8 °C
 unfoldable pub site_as : RecordKind → List ℕ → Site
 site_as k b = record {
@@ -37,7 +41,7 @@ site_as k b = record {
   depth = get_or b 12 0;
   drainage = get_or b 13 0;
   percolation = word_at b 14;
-  stand = record { entries = tabulate 4 (λ i. entry_in b i); count = get_or b 32 0 };
+  stand = stand_in b;
   immobilisation = word_at b 33;
   available = get_or b 35 0;
   base_deposition = word_at b 36;

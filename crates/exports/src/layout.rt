@@ -1,6 +1,6 @@
 // A site value from its bytes.
 ghost use Rattle.std.specs.Prelude.{◌≡◌, ◌<◌};
-ghost use Rattle.exports.specs.Layout.{entry_in, site_as};
+ghost use Rattle.exports.specs.Layout.{entry_in, stand_in, site_as};
 
 use numbers::{byte, word_at};
 use site::{Entry, Name, REFERENCE_TEMPERATURE, RecordKind, Site, Stand, name_in};
@@ -20,6 +20,16 @@ fn entry_in(b: &[u8], i: usize) -> Entry
     }
 }
 
+#[tactic(auto, unfolding(site::specs::Bytes::tabulate))]
+fn stand_in(b: &[u8]) -> Stand
+    ensures { result ≡ stand_in b.now }
+{
+    Stand {
+        entries: array::from_fn(|i| entry_in(b, i)),
+        count: byte(b, 32),
+    }
+}
+
 #[tactic(auto, unfolding(crate::specs::Layout::site_as))]
 pub fn site_as(kind: RecordKind, b: &[u8]) -> Site
     ensures { result ≡ site_as kind b.now }
@@ -36,10 +46,7 @@ pub fn site_as(kind: RecordKind, b: &[u8]) -> Site
         depth: byte(b, 12),
         drainage: byte(b, 13),
         percolation: word_at(b, 14),
-        stand: Stand {
-            entries: array::from_fn(|i| entry_in(b, i)),
-            count: byte(b, 32),
-        },
+        stand: stand_in(b),
         immobilisation: word_at(b, 33),
         available: byte(b, 35),
         base_deposition: word_at(b, 36),

@@ -48,12 +48,7 @@ fn sampled_of(site: &[u8], list: &[u8], months: &[u8]) -> Result<[u64; 10], Refu
 }
 
 #[unsafe(no_mangle)]
-pub extern "C" fn forest_sample(
-    site: &[u8],
-    list: &[u8],
-    months: &[u8],
-    out: &mut [u64],
-) -> u64
+pub extern "C" fn forest_sample(site: &[u8], list: &[u8], months: &[u8], out: &mut [u64]) -> u64
     ensures answer { result ≡ written_code (sample_written (sample_in site.now list.now months.now) (length out.old)) }
     ensures buffer { out.new ≡ sample_held (sample_in site.now list.now months.now) out.old }
     ensures decoded { Decodes (sample_written (sample_in site.now list.now months.now) (length out.old)) result }
