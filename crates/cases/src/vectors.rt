@@ -9,7 +9,7 @@ use pages::list_pages;
 use readings::months_in;
 use record::{read_record, write_record};
 use sampler::{Sampled, judge_months};
-use site::Refusal;
+use site::{Refusal, SpeciesList};
 use std::io::{self, Write};
 
 // What ends a vector: a call's refusal, or a write that failed.
@@ -43,12 +43,12 @@ fn print_written<W: FnOnce(&mut [u8]) -> Result<usize, Refusal>>(
     Ok(())
 }
 
-pub fn print_report(rt: &impl Print, file: &[u8]) -> Result<(), Stop> {
-    print_written(rt, |out| report(file, out))
+pub fn print_report(rt: &impl Print, file: &[u8], list: SpeciesList<'_>) -> Result<(), Stop> {
+    print_written(rt, |out| report(file, list, out))
 }
 
-pub fn print_pages(rt: &impl Print, file: &[u8]) -> Result<(), Stop> {
-    print_written(rt, |out| list_pages(file, out))
+pub fn print_pages(rt: &impl Print, file: &[u8], list: SpeciesList<'_>) -> Result<(), Stop> {
+    print_written(rt, |out| list_pages(file, list, out))
 }
 
 // The record count times over, as far as there is room: for 501 records of 78 bytes, one more than a file may have.
@@ -60,11 +60,11 @@ fn repeat(record: &[u8], count: u16) -> io::Result<ArrayVec<u8, 39078>> {
     Ok(file)
 }
 
-pub fn print_repeated(rt: &impl Print, bytes: &[u8]) -> Result<(), Stop> {
+pub fn print_repeated(rt: &impl Print, bytes: &[u8], list: SpeciesList<'_>) -> Result<(), Stop> {
     match bytes {
         [high, low, record @ ..] if !record.is_empty() => {
             let file = repeat(record, u16::from_be_bytes([*high, *low]))?;
-            print_pages(rt, &file)
+            print_pages(rt, &file, list)
         }
         _ => Ok(()),
     }
@@ -72,9 +72,14 @@ pub fn print_repeated(rt: &impl Print, bytes: &[u8]) -> Result<(), Stop> {
 
 // A record read, and written again into a lent buffer.
 #[tactic(auto, unfolding(site::specs::Refusal::unless, output::specs::Output::held_after))]
-pub fn print_rewritten(rt: &impl Print, record: &[u8], out: &mut [u8]) -> Result<(), Stop> {
-    let site = read_record(record)?;
-    let n = write_record(site, out)?;
+pub fn print_rewritten(
+    rt: &impl Print,
+    record: &[u8],
+    list: SpeciesList<'_>,
+    out: &mut [u8],
+) -> Result<(), Stop> {
+    let site = read_record(record, list)?;
+    let n = write_record(site, list, out)?;
     for b in &out[..n] {
         print!(rt; "{b:02X}")?;
     }
@@ -94,13 +99,13 @@ fn print_verdict(rt: &impl Print, verdict: Verdict) -> io::Result<()> {
 }
 
 // The record is as long as it states.
-pub fn print_months(rt: &impl Print, bytes: &[u8]) -> Result<(), Stop> {
+pub fn print_months(rt: &impl Print, bytes: &[u8], list: SpeciesList<'_>) -> Result<(), Stop> {
     let end = 3 + usize::from(word_at(bytes, 1));
     let Some((record, months)) = bytes.split_at_checked(end) else {
         return Ok(());
     };
-    let site = read_record(record)?;
-    let Sampled { pair, judged } = judge_months(site, months_in(months))?;
+    let site = read_record(record, list)?;
+    let Sampled { pair, judged } = judge_months(site, list, months_in(months))?;
     let l = judged.loads;
     print!(rt; "{} {} ", pair.sulphur, pair.nitrogen)?;
     print!(rt; "{} {} {} {} ", l.max_s, l.min_n, l.max_n, l.nut_n)?;
@@ -108,9 +113,9 @@ pub fn print_months(rt: &impl Print, bytes: &[u8]) -> Result<(), Stop> {
     Ok(())
 }
 
-pub fn print_level(rt: &impl Print, record: &[u8]) -> Result<(), Stop> {
-    let site = read_record(record)?;
-    let Searched { level, compared } = level_at(site).map_err(Refusal::from)?;
+pub fn print_level(rt: &impl Print, record: &[u8], list: SpeciesList<'_>) -> Result<(), Stop> {
+    let site = read_record(record, list)?;
+    let Searched { level, compared } = level_at(site, list).map_err(Refusal::from)?;
     println!(rt; "{level} {compared} compared")?;
     Ok(())
 }
