@@ -5,12 +5,12 @@ ghost use Rattle.site.specs.Refusal.{values_if};
 ghost use Rattle.loads.specs.SiteTerms.{terms_of};
 ghost use Rattle.judgement.specs.Regions.{region_of, acid_of};
 ghost use Rattle.judgement.specs.Verdicts.{verdict_of, verdict_word};
-ghost use Rattle.judgement.specs.Answers.{judgement_answer, judgement_values, pair_values};
+ghost use Rattle.judgement.specs.Answers.{judged_of, judgement_answer, judgement_values, pair_values};
 ghost use Rattle.judgement.specs.Balance.{Says};
 
 use crate::position::Position;
 use crate::{Judged, Region, Verdict};
-use site::{Rule, Site, SpeciesList};
+use site::{PassedSite, Rule, Site, SpeciesList};
 
 impl Position {
     // Within needs region 0 and nutrient exceedance 0.
@@ -31,16 +31,25 @@ impl Position {
     }
 }
 
+// The loads of a site that passes, and the verdict on its own pair.
+#[tactic(auto, using(crate::proofs::JudgementAnswers::verdict_by_loads, crate::proofs::JudgementAnswers::judged_says), unfolding(crate::specs::Answers::judged_of))]
+pub fn judge_passed(passed: PassedSite<'_>) -> Judged
+    ensures answer { result ≡ judged_of passed.entry.list.bytes.now passed.entry.site }
+    ensures demand3 { Says passed.entry.list.bytes.now (verdict_word result.verdict) passed.entry.site }
+{
+    let pair = Position::of(passed);
+    Judged {
+        loads: pair.loads,
+        verdict: pair.verdict(),
+    }
+}
+
 // The loads of a site and the verdict on its own pair, or the first rule that it breaks.
-#[tactic(auto, using(crate::proofs::JudgementAnswers::verdict_by_loads, crate::proofs::JudgementAnswers::judged_values_lem, crate::proofs::JudgementAnswers::judged_says), unfolding(crate::specs::Answers::judgement_answer, crate::specs::Answers::judgement_values, crate::specs::Answers::judged_of, site::specs::Refusal::values_if, site::specs::Refusal::and_then))]
+#[tactic(auto, using(crate::proofs::JudgementAnswers::judged_values_lem), unfolding(crate::specs::Answers::judgement_answer, crate::specs::Answers::judgement_values, site::specs::Refusal::values_if, site::specs::Refusal::and_then))]
 pub fn judge(site: Site, list: SpeciesList<'_>) -> Result<Judged, Rule>
     ensures answer { result ≡ judgement_answer list.entry.bytes.now site }
     ensures values { judgement_values result ≡ values_if (site_rule list.entry.bytes.now site) (pair_values (terms_of list.entry.bytes.now site) site.sulphur site.nitrogen) }
     ensures demand3 { (j : Judged) → result ≡ Ok j → Says list.entry.bytes.now (verdict_word j.verdict) site }
 {
-    let pair = Position::checked(site, list)?;
-    Ok(Judged {
-        loads: pair.loads,
-        verdict: pair.verdict(),
-    })
+    Ok(judge_passed(PassedSite::checked(site, list)?))
 }

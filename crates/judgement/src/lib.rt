@@ -6,7 +6,7 @@ mod judging;
 mod position;
 mod regions;
 
-pub use judging::judge;
+pub use judging::{judge, judge_passed};
 use loads::Loads;
 
 // The acid regions of document 01, "Judging a pair S, N", by number, with the condition under which each is the first that applies. n is N − CLminN.

@@ -1,14 +1,13 @@
 // A pair S, N beside the loads of its site: what regions and exceedances are made of.
-ghost use Rattle.std.specs.Prelude.{◌≡◌, ◌*◌, ◌-◌, ◌≤◌, ◌<◌, MatchResult, Ok, Err};
-ghost use Rattle.site.specs.Check.{site_rule};
+ghost use Rattle.std.specs.Prelude.{◌≡◌, ◌*◌, ◌-◌, ◌≤◌, ◌<◌};
 ghost use Rattle.loads.specs.CriticalLoads.{loads_of};
 ghost use Rattle.loads.specs.SiteTerms.{terms_of};
 ghost use Rattle.site.specs.Ranges.{deposition_range};
 ghost use Rattle.loads.specs.MostTerms.{most_max_s};
 ghost use Rattle.judgement.specs.Regions.{D, excess};
 
-use loads::{Loads, critical_loads, undenitrified_at};
-use site::{Rule, Site, SpeciesList};
+use loads::{Loads, loads_at, undenitrified_at};
+use site::PassedSite;
 
 // The ghost fields keep every product of these within 64 bits.
 #[derive(Clone, Copy)]
@@ -26,18 +25,18 @@ pub struct Position {
 }
 
 impl Position {
-    // The position of a site's own pair, or the first rule that the site breaks.
-    #[tactic(auto, using(loads::proofs::DenitrifiedLaws::undenitrified_least, loads::proofs::DenitrifiedLaws::undenitrified_most, loads::proofs::DenitrifiedLaws::e_is, crate::proofs::AtSites::max_s_le), unfolding(loads::specs::CriticalLoads::loads_answer, site::specs::Refusal::and_then))]
-    pub fn checked(site: Site, list: SpeciesList<'_>) -> Result<Position, Rule>
-        ensures { let l = list.entry.bytes.now in MatchResult result (λ p. (site_rule l site ≡ Ok tt) × (p.sulphur ≡ site.sulphur) × (p.nitrogen ≡ site.nitrogen) × (p.loads ≡ loads_of (terms_of l site)) × (p.undenitrified ≡ (terms_of l site).e)) (λ rule. site_rule l site ≡ Err rule) }
+    // The position of the own pair of a site that passes.
+    #[tactic(auto, using(loads::proofs::DenitrifiedLaws::e_is))]
+    pub fn of(passed: PassedSite<'_>) -> Position
+        ensures { let s = passed.entry.site in let t = terms_of passed.entry.list.bytes.now s in (result.sulphur ≡ s.sulphur) × (result.nitrogen ≡ s.nitrogen) × (result.loads ≡ loads_of t) × (result.undenitrified ≡ t.e) }
     {
-        let loads = critical_loads(site, list)?;
-        Ok(Position {
+        let site = passed.site;
+        Position {
             sulphur: u64::from(site.sulphur),
             nitrogen: u64::from(site.nitrogen),
-            loads,
+            loads: loads_at(passed),
             undenitrified: undenitrified_at(site),
-        })
+        }
     }
 
     // n = N − CLminN, or 0 where that is less

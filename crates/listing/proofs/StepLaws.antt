@@ -20,17 +20,9 @@ module _ (list f : List ℕ) (at : ℕ) where
   unfolding step_of
   step_refused e = rw (record_err list f at e)
 
-  module _ {x : Found} (is : record_at list f at ≡ Ok x) where
-    read_judged : judgement_answer list x.site ≡ Ok (judged_of list x.site)
-    read_judged = judged_passing list x.site (site_passes list f at (record_ok list f at is))
-
-    -- a site that was read is judged
-    pub is_judged : {r : Rule} {P : Type 0} → judgement_answer list x.site ≡ Err r → P
-    is_judged e = let q = sym e ∙ read_judged in cc
-
-    pub step_made : {j : Judged} → judgement_answer list x.site ≡ Ok j → step_of list (site_at list f at) ≡ Ok (record { row = row_by x.site j; next = x.next })
-    unfolding step_of row_of
-    step_made {j} e = let q : judged_of list x.site ≡ j = (let p = sym read_judged ∙ e in cc) in rw (record_ok list f at is, q)
+  pub step_made : {x : Found} → record_at list f at ≡ Ok x → step_of list (site_at list f at) ≡ Ok (record { row = row_by x.site (judged_of list x.site); next = x.next })
+  unfolding step_of row_of
+  step_made is = rw (record_ok list f at is)
 
 -- what a step says of the record
 module _ (list : List ℕ) where

@@ -6,9 +6,9 @@ ghost use Rattle.record.specs.Result.{result_numbers};
 ghost use Rattle.listing.specs.Rows.{row_by, walked_of, step_of};
 
 use arrayvec::ArrayVec;
-use judgement::{Judged, judge};
+use judgement::{Judged, judge_passed};
 use record::{Found, read_at};
-use site::{Refusal, Rule, Site, SpeciesList};
+use site::{PassedSite, Refusal, Rule, Site, SpeciesList};
 use text::Row;
 
 // The row of a record, and the offset after it: as `Found` of `record`, whose field is called `site`.
@@ -34,7 +34,7 @@ fn row_at(file: &[u8], at: usize, list: SpeciesList<'_>) -> Result<Step, Refusal
 {
     let Found { site, next } = read_at(file, at, list)?;
     // a site that was read passes the check
-    let judged = judge(site, list).map_err(|rule| Refusal { rule, at })?;
+    let judged = judge_passed(PassedSite { site, list });
     let row = row_by(site, judged);
     Ok(Step { row, next })
 }

@@ -7,7 +7,7 @@ ghost use Rattle.loads.specs.Limits.{limit_answer, limit_values};
 
 use crate::uptake::base_uptake;
 use crate::valid::ValidSite;
-use site::{Rule, Site, SpeciesList};
+use site::{PassedSite, Rule, Site, SpeciesList};
 
 // B + W − Bu, and A
 #[derive(Clone, Copy)]
@@ -42,6 +42,6 @@ pub fn aluminium_limit(site: Site, list: SpeciesList<'_>) -> Result<u64, Rule>
     ensures answer { result ≡ limit_answer list.entry.bytes.now site }
     ensures values { limit_values result ≡ values_if (site_rule list.entry.bytes.now site) ((terms_of list.entry.bytes.now site).A ∷ []) }
 {
-    let site = ValidSite::checked(site, list)?;
-    Ok(site.bases().limit)
+    let passed = PassedSite::checked(site, list)?;
+    Ok(ValidSite::of(passed).bases().limit)
 }

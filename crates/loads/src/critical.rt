@@ -10,7 +10,7 @@ use crate::Loads;
 use crate::hydrogen::SoilWater;
 use crate::nitrogen::undenitrified_at;
 use crate::valid::ValidSite;
-use site::{Rule, Site, SpeciesList};
+use site::{PassedSite, Rule, Site, SpeciesList};
 
 impl ValidSite<'_> {
     // CLmaxS
@@ -47,12 +47,18 @@ impl ValidSite<'_> {
     }
 }
 
+// The loads of a site that passes.
+pub fn loads_at(passed: PassedSite<'_>) -> Loads
+    ensures { result ≡ loads_of (terms_of passed.entry.list.bytes.now passed.entry.site) }
+{
+    ValidSite::of(passed).loads()
+}
+
 // The loads of a site, or the first rule that it breaks.
 #[tactic(auto, unfolding(crate::specs::CriticalLoads::loads_answer, crate::specs::CriticalLoads::loads_values, crate::specs::CriticalLoads::load_numbers, crate::specs::CriticalLoads::loads_of, site::specs::Refusal::values_if, site::specs::Refusal::and_then))]
 pub fn critical_loads(site: Site, list: SpeciesList<'_>) -> Result<Loads, Rule>
     ensures answer { result ≡ loads_answer list.entry.bytes.now site }
     ensures values { let t = terms_of list.entry.bytes.now site in loads_values result ≡ values_if (site_rule list.entry.bytes.now site) (cl_max_s t ∷ cl_min_n t ∷ cl_max_n t ∷ cl_nut_n t ∷ []) }
 {
-    let site = ValidSite::checked(site, list)?;
-    Ok(site.loads())
+    Ok(loads_at(PassedSite::checked(site, list)?))
 }

@@ -12,7 +12,7 @@ mod valid;
 mod weathering;
 
 pub use bases::aluminium_limit;
-pub use critical::critical_loads;
+pub use critical::{critical_loads, loads_at};
 pub use hydrogen::greatest_level;
 pub use nitrogen::undenitrified_at;
 

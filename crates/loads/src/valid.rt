@@ -1,11 +1,10 @@
-// A site that passes the check.
-ghost use Rattle.std.specs.Prelude.{◌≡◌, MatchResult, Ok, Err};
+// A site that passes the check, with the sums over its stand.
+ghost use Rattle.std.specs.Prelude.{◌≡◌};
 ghost use Rattle.site.specs.Bounds.{Bounds};
-ghost use Rattle.site.specs.Check.{site_rule};
 ghost use Rattle.loads.specs.Uptake.{nitrogen_in, base_in, stand_sum};
 
 use crate::uptake::{Sums, stand_sums};
-use site::{Rule, Site, SpeciesList, check_site};
+use site::{PassedSite, Site, SpeciesList};
 
 // A site that passes the check, with the list of its species and the sums over its stand.
 #[derive(Clone, Copy)]
@@ -20,11 +19,11 @@ pub struct ValidSite<'a> {
 
 impl<'a> ValidSite<'a> {
     #[tactic(auto, using(site::proofs::BoundsLaw::bounds, crate::proofs::UptakeLaws::entries_bounds), unfolding(crate::specs::Uptake::stand_sum))]
-    pub fn checked(site: Site, list: SpeciesList<'a>) -> Result<ValidSite<'a>, Rule>
-        ensures { MatchResult result (λ v. (site_rule list.entry.bytes.now site ≡ Ok tt) × (v.site ≡ site) × (v.list.bytes.now ≡ list.entry.bytes.now)) (λ rule. site_rule list.entry.bytes.now site ≡ Err rule) }
+    pub fn of(passed: PassedSite<'a>) -> ValidSite<'a>
+        ensures { (result.site ≡ passed.entry.site) × (result.list.bytes.now ≡ passed.entry.list.bytes.now) }
     {
-        check_site(site, list)?;
+        let PassedSite { site, list } = passed;
         let sums = stand_sums(site.stand.as_slice(), list);
-        Ok(ValidSite { site, list, sums })
+        ValidSite { site, list, sums }
     }
 }

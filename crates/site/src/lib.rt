@@ -6,6 +6,7 @@ mod check;
 mod kinds;
 mod length;
 mod names;
+mod passed;
 mod ranges;
 mod rules;
 mod species_list;
@@ -16,6 +17,7 @@ pub use bytes::{entries_in, entry_at, name_in};
 pub use check::check_site;
 pub use kinds::REFERENCE_TEMPERATURE;
 pub use length::length_permitted;
+pub use passed::PassedSite;
 pub use ranges::{
     AVAILABLE, BASE_DEPOSITION, CEILING, DEPTH, DRAINAGE, GIBBSITE, IMMOBILISATION, LEACHATE,
     PARENT, PERCOLATION, RATIO, Range, TEMPERATURE, texture_rule,

@@ -1,7 +1,7 @@
 // A list of species that a buyer lends: its check, and the search in it.
-ghost use Rattle.std.specs.Prelude.{◌≡◌, ◌≤◌, [], MatchResult, Ok, Err};
+ghost use Rattle.std.specs.Prelude.{◌≡◌, ◌≤◌, ◌<◌, [], MatchResult, Ok, Err};
 ghost use Rattle.numbers.specs.TwoBytes.{AllBytes};
-ghost use Rattle.site.specs.SpeciesList.{entry_count, place_of, lists, list_rule, list_fault};
+ghost use Rattle.site.specs.SpeciesList.{entry_count, number_at, place_of, lists, list_rule, list_fault};
 
 use crate::{Refusal, Rule};
 use numbers::word_at;
@@ -47,7 +47,17 @@ impl<'a> SpeciesList<'a> {
         SpeciesList { bytes: &[] }
     }
 
-    // The entry with a number, or how many entries there are where none has it. The numbers rise, so each turn halves what is left.
+    // The number of an entry. Each byte is there, so that nothing is tested.
+    fn number_at(self, i: usize) -> u16
+        requires { i < entry_count self.bytes.now }
+        ensures { result ≡ number_at self.entry.bytes.now i }
+    {
+        let at = 10 * i;
+        u16::from_be_bytes([self.bytes[at], self.bytes[at + 1]])
+    }
+
+    // The entry with a number, or how many entries there are where none has it. The numbers rise, so each turn halves what is left: `size` entries from `low`
+    // on. Both ways take a turn the same lengths, so that no branch has to be foreseen.
     #[tactic(auto, using(crate::proofs::SearchLaws::starts))]
     pub fn place_of(self, number: u16) -> usize
         ensures place { result ≡ place_of self.entry.bytes.now number }
@@ -55,17 +65,16 @@ impl<'a> SpeciesList<'a> {
     {
         let n = self.bytes.len() / 10;
         let mut low = 0;
-        let mut high = n;
+        let mut size = n;
         // a `for` has nothing to run over
-        while low < high {
-            let middle = low + (high - low) / 2;
-            if word_at(self.bytes, 10 * middle) < number {
-                low = middle + 1;
-            } else {
-                high = middle;
+        while size > 1 {
+            let half = size / 2;
+            if self.number_at(low + half) <= number {
+                low += half;
             }
+            size -= half;
         }
-        if low < n && word_at(self.bytes, 10 * low) == number {
+        if low < n && self.number_at(low) == number {
             low
         } else {
             n

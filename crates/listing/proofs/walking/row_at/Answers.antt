@@ -1,7 +1,7 @@
-use Rattle.std.proofs.Common.{◌≡◌, Ok, Err, sym, ◌∙◌, rules}
+use Rattle.std.proofs.Common.{◌≡◌, Ok, sym, ◌∙◌, rules}
 use Rattle.std.proofs.lemmas.Result.{err_from_is_err_and}
 use Rattle.record.specs.Outer.{record_at}
-use Rattle.listing.proofs.StepLaws.{step_refused, is_judged, step_made}
+use Rattle.listing.proofs.StepLaws.{step_refused, step_made}
 use Rattle.listing.proofs.walking.row_at.Goals as goal
 
 pub returns-in_err-site : goal.returns-in_err-site
@@ -10,16 +10,8 @@ returns-in_err-site c =
     let e = sym c.read_at.ensures.answer ∙ c.in_err-site.was in
     rw (p.1, p.2) (sym (step_refused _ _ _ e))
 
-pub returns-in_err-judged : goal.returns-in_err-judged
-returns-in_err-judged c =
-    let x = c.in_ok-site.field-0 in
-    let is : record_at c.args.list.bytes.now c.args.file.now c.args.at ≡ Ok x = sym c.read_at.ensures.answer ∙ c.in_ok-site.was in
-    let broken : c.judge.result ≡ Err c.in_err-judged.field-0.0.rule = search rules in
-    is_judged _ _ _ is (sym c.judge.ensures.answer ∙ broken)
-
 pub returns : goal.returns
 returns c =
     let x = c.in_ok-site.field-0 in
     let is : record_at c.args.list.bytes.now c.args.file.now c.args.at ≡ Ok x = sym c.read_at.ensures.answer ∙ c.in_ok-site.was in
-    let judged : c.judge.result ≡ Ok c.in_ok-judged.judged = search rules in
-    rw c.row_by-row.ensures (sym (step_made _ _ _ is (sym c.judge.ensures.answer ∙ judged)))
+    rw (c.row_by-row.ensures, c.judge_passed-judged.ensures.answer) (sym (step_made _ _ _ is))

@@ -1,9 +1,8 @@
-use Rattle.std.proofs.Common.{◌-◌}
-use Rattle.site.proofs.SearchLaws.{Between}
+use Rattle.site.proofs.SearchLaws.{Among}
 use Rattle.site.proofs.species_list.SpeciesList.place_of.Given as goal
 
-abbrev pub invariant-loop-low : goal.invariant-loop-low
-invariant-loop-low l = Between l.fn.self.bytes.now l.fn.number l.low l.high
+abbrev pub invariant-loop-size : goal.invariant-loop-size
+invariant-loop-size l = Among l.fn.self.bytes.now l.fn.number l.low l.size
 
-abbrev pub decreases-loop-low : goal.decreases-loop-low
-decreases-loop-low l = l.high - l.low
+abbrev pub decreases-loop-size : goal.decreases-loop-size
+decreases-loop-size l = l.size
