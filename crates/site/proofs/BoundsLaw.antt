@@ -5,22 +5,22 @@ use mathlib.Core.Bool.{true, ◌&&◌}
 use mathlib.Core.List.{List}
 use Prim.Native.Nat.{ℕ, ◌≤◌, ◌<◌}
 use native.Mathlib.Omega.{arith}
-use lib.Dec.{leb}
+use lib.Dec.{leb, eqb}
 use lib.ListN.{length, get_or, take, length-take, get_or-eq_default}
 use lib.Seq.{get_or-take}
-use borrow.Author.Tests.{leb-true}
+use borrow.Author.Tests.{leb-true, eqb-true}
 use Rattle.site.specs.declared.Site.{Site}
 use Rattle.site.specs.declared.Entry.{Entry}
-use Rattle.site.specs.declared.Rule.TheVariants.{OutOfRange}
+use Rattle.site.specs.declared.Rule.TheVariants.{OutOfRange, NotRising, SharesNotWhole}
 use Rattle.std.specs.Prelude.{Ok}
 use Rattle.std.specs.List.{list_all}
 use Rattle.site.specs.Bounds.{no_entry, EntryBounds, StandBounds, Bounds}
 use Rattle.site.specs.Check.{site_rule}
-use Rattle.site.specs.Ranges.{parent_range, depth_range, percolation_range, share_range, most_yield, immobilisation_range, available_range, base_deposition_range, ratio_range, gibbsite_range, ceiling_range, leachate_range, temperature_range}
+use Rattle.site.specs.Ranges.{parent_range, depth_range, percolation_range, share_range, share_sum, most_yield, immobilisation_range, available_range, base_deposition_range, ratio_range, gibbsite_range, ceiling_range, leachate_range, temperature_range}
 use Rattle.site.specs.declared.RecordKind.{RecordKind}
 use Rattle.site.specs.declared.RecordKind.TheVariants.{Tag52, Tag53, Tag54}
 use Rattle.site.specs.Kinds.{due, counted_temperature}
-use Rattle.site.specs.Values.{count_rule, item_count, value_rule, stand_rule, entries_rule, known_rule, species_ranged, entry_ranged, inside}
+use Rattle.site.specs.Values.{count_rule, item_count, value_rule, stand_rule, entries_rule, known_rule, species_ranged, entry_ranged, rising_from, shares_of, inside}
 use Rattle.site.proofs.Tests.{le_or_lt, and_l, and_r}
 use Rattle.site.proofs.Passing.{pass_then, both_passed, inside_both, between_passed}
 use Rattle.site.proofs.PartLaws.{test_at}
@@ -61,6 +61,15 @@ stand_bounds list k s c v =
       each = each_bounds k s.stand.entries n (pass_then (list_all (entry_ranged k) es) OutOfRange _ (both_passed (entries_rule k es) (known_rule list es) v).0).0;
     }
 
+-- the shares add up to 100
+share_bound : (list : List ℕ) (k : RecordKind) (s : Site) → value_rule list k 7 s ≡ Ok tt → shares_of (take s.stand.count s.stand.entries) ≡ share_sum
+unfolding value_rule stand_rule entries_rule
+share_bound list k s v =
+    let es = take s.stand.count s.stand.entries in
+    let ordered = (pass_then (list_all (entry_ranged k) es) OutOfRange _ (both_passed (entries_rule k es) (known_rule list es) v).0).1 in
+    let whole = (pass_then (rising_from 0 es) NotRising _ ordered).1 in
+    eqb-true (shares_of es) share_sum (pass_then (eqb (shares_of es) share_sum) SharesNotWhole (Ok tt) whole).0
+
 module _ (list : List ℕ) (s : Site) (e : site_rule list s ≡ Ok tt) where
   value_at_lem : (t : ℕ) → 1 ≤ t → t ≤ 15 → value_rule list s.kind t s ≡ Ok tt
   value_at_lem t some most = (site_passed list s e t some most).1
@@ -83,6 +92,7 @@ module _ (list : List ℕ) (s : Site) (e : site_rule list s ≡ Ok tt) where
     depth = (between_passed depth_range s.depth (value_at_lem 4 (omega arith) (omega arith))).1;
     percolation = (between_passed percolation_range s.percolation (value_at_lem 6 (omega arith) (omega arith))).1;
     stand = stand_bounds list s.kind s (site_passed list s e 7 (omega arith) (omega arith)).0 (value_at_lem 7 (omega arith) (omega arith));
+    shares = share_bound list s.kind s (value_at_lem 7 (omega arith) (omega arith));
     immobilisation = (between_passed immobilisation_range s.immobilisation (value_at_lem 8 (omega arith) (omega arith))).1;
     available = (between_passed available_range s.available (value_at_lem 9 (omega arith) (omega arith))).1;
     deposition = (between_passed base_deposition_range s.base_deposition (value_at_lem 10 (omega arith) (omega arith))).1;

@@ -16,4 +16,6 @@ pub mod NumberLaws
 pub mod BoundsLaw
 pub mod ByCheckLaws
 pub mod FirstBrokenLaws
+pub mod NarrowLaws
+pub mod ExampleLists
 pub mod ExampleSite

@@ -12,7 +12,7 @@ use Rattle.std.specs.Prelude.{Ok, Err}
 use Rattle.site.specs.declared.Rule.{Rule}
 use Rattle.site.specs.declared.Rule.TheVariants.{BadList}
 use Rattle.site.specs.Choice.{pick}
-use Rattle.site.specs.Refusal.{Checked}
+use Rattle.site.specs.Refusal.{Checked, rule_number}
 use Rattle.site.specs.SpeciesList.{entry_count, number_at, least_at, good_entry, first_failing, first_bad, list_rule, list_fault, Rises, GoodList, BadEntry, broken, outside, not_rising, FirstBad}
 use Rattle.site.proofs.Tests.{le_or_lt, and_l, and_r}
 use Rattle.site.proofs.Passing.{pass_then}
@@ -259,3 +259,11 @@ module _ (l : List ℕ) where
       (λ (h : n ≤ 768). omega arith)
       (λ (h : 768 < n). let r = good_rises l n first_before in absurd (omega (arith, from_256 l n first_before 768 h, (r.inside 768 h).1)))
       (le_or_lt n 768)
+
+-- what is answered of a list that is refused at an offset
+pub refused_at : (l : List ℕ) (at : ℕ) → (list_rule l ≡ Err BadList) × (at ≡ list_fault l)
+    → record {
+      answer : (list_rule l ≡ Err BadList) × (at ≡ list_fault l);
+      number : (rule_number BadList ≡ 15) × FirstBad l at;
+    }
+refused_at l at e = record { answer = e; number = (refl, rw e.1 (refused_list l e.0).1) }

@@ -1,12 +1,13 @@
 // A list of species that a buyer lends: its check, and the search in it.
 ghost use Rattle.std.specs.Prelude.{◌≡◌, ◌≤◌, ◌<◌, [], MatchResult, Ok, Err};
 ghost use Rattle.numbers.specs.TwoBytes.{AllBytes};
-ghost use Rattle.site.specs.SpeciesList.{entry_count, number_at, place_of, lists, list_rule, list_fault};
+ghost use Rattle.site.specs.Refusal.{rule_number};
+ghost use Rattle.site.specs.SpeciesList.{entry_count, number_at, place_of, lists, list_rule, list_fault, GoodList, FirstBad};
 
 use crate::{Refusal, Rule};
 use numbers::word_at;
 
-// A list that has passed its check. No other can be held, so that a call that takes it need not check it again.
+// A list that passes its check. No other can be held, so that a call that takes it need not check it.
 #[derive(Clone, Copy)]
 pub struct SpeciesList<'a> {
     pub bytes: &'a [u8],
@@ -18,7 +19,8 @@ impl<'a> SpeciesList<'a> {
     // The list in these bytes, or rule 15 at the first entry that breaks it.
     #[tactic(auto, using(crate::proofs::ListLaws::good_none, crate::proofs::ListLaws::good_list))]
     pub fn checked(bytes: &'a [u8]) -> Result<SpeciesList<'a>, Refusal>
-        ensures { MatchResult result (λ list. (list_rule bytes.now ≡ Ok tt) × (list.bytes.now ≡ bytes.now)) (λ refusal. (list_rule bytes.now ≡ Err refusal.rule) × (refusal.at ≡ list_fault bytes.now)) }
+        ensures answer { MatchResult result (λ list. (list_rule bytes.now ≡ Ok tt) × (list.bytes.now ≡ bytes.now)) (λ refusal. (list_rule bytes.now ≡ Err refusal.rule) × (refusal.at ≡ list_fault bytes.now)) }
+        ensures number { MatchResult result (λ list. GoodList bytes.now) (λ refusal. (rule_number refusal.rule ≡ 15) × FirstBad bytes.now refusal.at) }
     {
         let n = bytes.len() / 10;
         let mut least = 256;
@@ -57,7 +59,7 @@ impl<'a> SpeciesList<'a> {
     }
 
     // The entry with a number, or how many entries there are where none has it. The numbers rise, so each turn halves what is left: `size` entries from `low`
-    // on. Both ways take a turn the same lengths, so that no branch has to be foreseen.
+    // on, as many either way, so that no branch has to be foreseen.
     #[tactic(auto, using(crate::proofs::SearchLaws::starts))]
     pub fn place_of(self, number: u16) -> usize
         ensures place { result ≡ place_of self.entry.bytes.now number }
