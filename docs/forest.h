@@ -89,13 +89,13 @@
 extern "C" {
 #endif
 
-/* The listing of a file of records. A buffer of FOREST_MOST_TEXT bytes is always long enough. Stack: 107 KiB. */
+/* The listing of a file of records. A buffer of FOREST_MOST_TEXT bytes is always long enough. Stack: 72 KiB. */
 uint64_t forest_list(const uint8_t *file, size_t file_len, const uint8_t *list, size_t list_len, uint8_t *out, size_t out_len);
 
 /* The listing as pages of 60 lines: a header and 59 sites, on the last page 1 to 59, and a short last page is not filled.
  * Every line is 64 characters and then 0A (hexadecimal): the name left in 8; right the four loads in 8 each, the region in
  * 2, the two exceedances in 7 each, the verdict in 7; one space. The buffer is for all pages together: one of
- * FOREST_MOST_PAGES bytes is always long enough. Stack: 107 KiB. */
+ * FOREST_MOST_PAGES bytes is always long enough. Stack: 72 KiB. */
 uint64_t forest_pages(const uint8_t *file, size_t file_len, const uint8_t *list, size_t list_len, uint8_t *out, size_t out_len);
 
 /* The listing, or the line `refused N at M`, also where the list is refused; with an empty list, what the program prints for
@@ -120,7 +120,7 @@ uint64_t forest_loads(const uint8_t *site, size_t site_len, const uint8_t *list,
 uint64_t forest_level(const uint8_t *site, size_t site_len, const uint8_t *list, size_t list_len, uint64_t *out, size_t out_len);
 
 /* Eight numbers: the four loads, region (0 to 4), acid exceedance, nutrient exceedance, mark (0 within, 1 over).
- * Stack: 1 KiB. */
+ * Stack: 2 KiB. */
 uint64_t forest_judge(const uint8_t *site, size_t site_len, const uint8_t *list, size_t list_len, uint64_t *out, size_t out_len);
 
 /* The pair of a year from the rain sampler, judged at the site in place of its own. Ten numbers: S, N, then the eight of

@@ -4,3 +4,4 @@ pub mod FileCallLaws
 pub mod SiteValueLaws
 pub mod SampleCallLaws
 pub mod RewriteLaws
+pub mod ExampleLent

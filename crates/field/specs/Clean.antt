@@ -1,5 +1,5 @@
 -- What reading and writing keep of a site.
-use Rattle.std.specs.Prelude.{◌≡◌, List, ◌++◌, take, length, replicate}
+use Rattle.std.specs.Prelude.{◌≡◌, ◌++◌, take, length, replicate}
 use Rattle.site.specs.declared.Site.{Site}
 use Rattle.site.specs.Kinds.{counted_temperature}
 use Rattle.site.specs.Bounds.{no_entry}

@@ -36,7 +36,7 @@ store k t v s = record {
   temperature = pick (eqb t 16) (get_or v 0 0) s.temperature;
 }
 
--- the bytes of a species number: both, or the low one alone, which is the number itself below 256, as in every site that passes; and of entries
+-- the bytes of a species number: both, or the low one alone, which is the number itself in every site of kinds 52 and 53 that passes; and of entries
 abbrev pub species_bytes : RecordKind → ℕ → List ℕ
 species_bytes k n = pick (two_byte_species k) (word_bytes n) (n % 256 ∷ [])
 

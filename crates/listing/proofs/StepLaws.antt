@@ -1,17 +1,14 @@
 -- One step of the walk: the record at an offset, as a row.
 use Prim.Native.Nat.{ℕ}
-use mathlib.Core.Path.{◌≡◌, refl, sym, ◌∙◌}
+use mathlib.Core.Path.{◌≡◌, refl}
 use mathlib.Core.List.{List}
 use Rattle.std.specs.Prelude.{Result, Ok, Err}
 use Rattle.site.specs.declared.Site.{Site}
-use Rattle.site.specs.declared.Rule.{Rule}
 use Rattle.site.specs.declared.Refusal.{Refusal}
-use Rattle.judgement.specs.declared.Judged.{Judged}
-use Rattle.judgement.specs.Answers.{judged_of, judgement_answer}
-use Rattle.judgement.proofs.JudgementAnswers.{judged_passing}
+use Rattle.judgement.specs.Answers.{judged_of}
 use Rattle.record.specs.declared.Found.{Found}
 use Rattle.record.specs.Outer.{site_at, record_at}
-use Rattle.record.proofs.Place.{record_ok, record_err, site_passes}
+use Rattle.record.proofs.Place.{record_ok, record_err}
 use Rattle.listing.specs.declared.walking.Step.{Step}
 use Rattle.listing.specs.Rows.{row_by, row_of, step_of}
 

@@ -15,3 +15,4 @@ pub mod OneSiteLaws
 pub mod LimitAnswers
 pub mod LoadsAnswers
 pub mod ExampleTerms
+pub mod ListedLaws

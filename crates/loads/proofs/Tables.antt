@@ -15,7 +15,7 @@ use Rattle.site.proofs.Tests.{le_or_lt, and_l, and_r}
 use Rattle.site.proofs.BelowLaws.{all_below, one_below}
 use Rattle.loads.specs.Weathering.{class_of}
 use Rattle.loads.specs.Nitrogen.{drainage_parts}
-use Rattle.loads.specs.Uptake.{species_table, species_row, content, nitrogen_in}
+use Rattle.loads.specs.Uptake.{species_table, species_row, content, nitrogen_in, base_in}
 use Rattle.loads.specs.MostTerms.{most_d}
 
 -- class k is 20 at most, and 1 at least where the parent material is not organic
@@ -46,6 +46,21 @@ nitrogen_content_le list b x =
     ⊎_elim
     (λ (h : x ≤ 8). rw (le-leb x 8 h) (table_content_le x h))
     (λ (h : 8 < x). rw (lt-leb x 8 h) (word_le list (10 * place_of list x + 8) b))
+    (le_or_lt x 8)
+
+table_base_le : (x : ℕ) → x ≤ 8 → get_or (get_or species_table x []) 0 0 + get_or (get_or species_table x []) 1 0 + get_or (get_or species_table x []) 2 0 ≤ 196605
+table_base_le x h =
+    leb-true _ _
+    (one_below (λ x. leb (get_or (get_or species_table x []) 0 0 + get_or (get_or species_table x []) 1 0 + get_or (get_or species_table x []) 2 0) 196605) 9 refl x (omega arith))
+
+pub base_content_le : (list : List ℕ) → AllBytes list → (x : ℕ) → base_in list x ≤ 196605
+unfolding base_in content species_row
+base_content_le list b x =
+    ⊎_elim
+    (λ (h : x ≤ 8). rw (le-leb x 8 h) (table_base_le x h))
+    (λ (h : 8 < x).
+    let at = 10 * place_of list x in
+    rw (lt-leb x 8 h) (omega (arith, word_le list (at + 2) b, word_le list (at + 4) b, word_le list (at + 6) b)))
     (le_or_lt x 8)
 
 -- past the table: 0

@@ -1,6 +1,6 @@
 -- Upper bounds of the terms at a site that passes the check, and of the loads and sums made of them, and the least e, each written once.
 use Rattle.std.specs.Prelude.{ℕ, ◌+◌, ◌*◌, ◌-◌, ◌/◌}
-use Rattle.site.specs.Ranges.{depth_range, percolation_range, most_entries, share_range, most_yield, immobilisation_range, available_range, base_deposition_range, ratio_range, ceiling_range, leachate_range}
+use Rattle.site.specs.Ranges.{depth_range, percolation_range, share_range, share_sum, most_yield, immobilisation_range, available_range, base_deposition_range, ratio_range, ceiling_range, leachate_range}
 use Rattle.loads.specs.Uptake.{uptake_divisor}
 
 -- t, at 20 °C
@@ -42,9 +42,17 @@ most_nitrogen_weight = share_range.most * most_yield * 65535
 abbrev pub most_base_weight : ℕ
 most_base_weight = share_range.most * most_yield * (3 * 65535)
 
--- CLminN, without the use of the shares adding up to 100; 52928
+-- Nu, of shares that add up to 100; 13107
+abbrev pub most_nu : ℕ
+most_nu = share_sum * most_yield * 65535 / uptake_divisor
+
+-- the base demand; 39321
+abbrev pub most_demand : ℕ
+most_demand = share_sum * most_yield * (3 * 65535) / uptake_divisor
+
+-- CLminN; 13607
 abbrev pub most_min_n : ℕ
-most_min_n = most_entries * most_nitrogen_weight / uptake_divisor + immobilisation_range.most
+most_min_n = most_nu + immobilisation_range.most
 
 -- d
 abbrev pub most_d : ℕ
@@ -54,10 +62,10 @@ most_d = 800
 abbrev pub least_e : ℕ
 least_e = 1000 - most_d
 
--- CLmaxN; 2793528
+-- CLmaxN; 2754207
 abbrev pub most_max_n : ℕ
 most_max_n = most_min_n + 1000 * most_max_s / least_e
 
--- CLnutN; 202928
+-- CLnutN; 163607
 abbrev pub most_nut_n : ℕ
 most_nut_n = most_min_n + 1000 * most_l / least_e

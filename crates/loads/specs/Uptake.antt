@@ -27,7 +27,7 @@ species_table =
 abbrev pub listed_row : List ℕ → ℕ → List ℕ
 listed_row list i = word_at list (10 * i + 2) ∷ word_at list (10 * i + 4) ∷ word_at list (10 * i + 6) ∷ word_at list (10 * i + 8) ∷ []
 
--- the contents of a species: from the table, and past it from the list that is lent (document 02, E6). Where neither has it, which rule 16 refuses, they are 0.
+-- the contents of a species: from the table, and past it from the list that is lent (document 02, E6). In a list that passes, a number that neither has, which rule 8 or 16 refuses, has contents of 0.
 unfoldable pub species_row : (list : List ℕ) (species : ℕ) → List ℕ
 species_row list species = pick (leb species most_species) (get_or species_table species []) (listed_row list (place_of list species))
 

@@ -34,11 +34,7 @@ fn put_pages(out: &mut [u8], rows: &[Row]) -> Result<usize, Refusal>
 }
 
 // Nothing is written before the last record is checked and all pages are known to fit.
-pub fn list_pages(
-    file: &[u8],
-    list: SpeciesList<'_>,
-    out: &mut [u8],
-) -> Result<usize, Refusal>
+pub fn list_pages(file: &[u8], list: SpeciesList<'_>, out: &mut [u8]) -> Result<usize, Refusal>
     ensures answer { result ≡ file_answer (pages_of list.entry.bytes.now) (contents list.entry.bytes.now file.now) out.old }
     ensures buffer { out.new ≡ file_held (pages_of list.entry.bytes.now) (contents list.entry.bytes.now file.now) out.old }
     ensures numbers { written_numbers result ≡ file_numbers (pages_of list.entry.bytes.now) (contents list.entry.bytes.now file.now) out.old }

@@ -74,6 +74,13 @@ module _ (list : List ℕ) (s : Site) (e : site_rule list s ≡ Ok tt) where
   value_at_lem : (t : ℕ) → 1 ≤ t → t ≤ 15 → value_rule list s.kind t s ≡ Ok tt
   value_at_lem t some most = (site_passed list s e t some most).1
 
+  -- every entry is in its ranges
+  pub site_ranged : list_all (entry_ranged s.kind) (take s.stand.count s.stand.entries) ≡ true
+  unfolding value_rule stand_rule entries_rule
+  site_ranged =
+      let es = take s.stand.count s.stand.entries in
+      (pass_then (list_all (entry_ranged s.kind) es) OutOfRange _ (both_passed (entries_rule s.kind es) (known_rule list es) (value_at_lem 7 (omega arith) (omega arith))).0).0
+
   -- the temperature that counts: the field's, or that of 8 °C
   temperature_bound : (k : RecordKind) → s.kind ≡ k → counted_temperature s ≤ temperature_range.most
   unfolding value_rule counted_temperature

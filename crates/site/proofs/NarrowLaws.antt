@@ -3,19 +3,16 @@ use mathlib.Core.Path.{◌≡◌, refl, ap, ◌∙◌, sym}
 use mathlib.Core.Bool.{Bool, true, false, ◌&&◌, ◌||◌}
 use mathlib.Core.List.{List, [], ◌∷◌}
 use Prim.Native.Nat.{ℕ, ◌≤◌}
-use native.Mathlib.Omega.{arith}
 use borrow.Author.Tests.{leb-true, le-leb}
 use lib.Dec.{leb}
 use lib.ListN.{get_or, take}
 use Rattle.std.specs.Prelude.{Ok, Err}
 use Rattle.std.specs.List.{list_all}
-use Rattle.site.specs.Choice.{pick}
 use Rattle.site.specs.Kinds.{two_byte_species, due}
 use Rattle.site.specs.Ranges.{most_species, share_range, most_yield}
 use Rattle.site.specs.Refusal.{Checked, and_then}
 use Rattle.site.specs.declared.Entry.{Entry}
 use Rattle.site.specs.declared.RecordKind.{RecordKind}
-use Rattle.site.specs.declared.Rule.TheVariants.{OutOfRange}
 use Rattle.site.specs.declared.Site.{Site}
 use Rattle.site.specs.Values.{species_ranged, entry_ranged, inside, entries_rule, species_known, known_rule, stand_rule, value_rules, value_rule}
 use Rattle.site.specs.Check.{fields_rule, site_rule}

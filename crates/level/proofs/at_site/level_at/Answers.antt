@@ -1,6 +1,5 @@
-use Rattle.std.proofs.Common.{◌≡◌, sym, ap, ◌∙◌, rules}
+use Rattle.std.proofs.Common.{sym, ap, ◌∙◌, rules}
 use Rattle.loads.specs.Search.{level_values}
-use Rattle.level.specs.SiteLevel.{site_level}
 use Rattle.level.proofs.SiteLevelLaws.{by_limit, by_refusal, site_level_values, few_found}
 use Rattle.level.proofs.at_site.level_at.Goals as goal
 

@@ -1,4 +1,3 @@
-use Rattle.std.proofs.Common.{arith}
 use Rattle.loads.proofs.DenitrifiedLaws.{undenitrified-pos, undenitrified_most}
 use Rattle.judgement.proofs.AtSites.{max_s_le}
 use Rattle.judgement.proofs.position.Position.of.Goals as goal
