@@ -7,7 +7,7 @@ use lib.Dec.{leb, eqb}
 use Rattle.site.specs.declared.Site.{Site}
 use Rattle.site.specs.declared.Entry.{Entry}
 use Rattle.site.specs.declared.RecordKind.{RecordKind}
-use Rattle.site.specs.declared.Rule.TheVariants.{NoBytes, OuterCut, OuterTag, TooMany, InnerCut, InnerTag, BadLength, OutOfRange, NotRising, SharesNotWhole, BufferShort, BadConcentration, NoReading, PairTooLarge, BadList, NotListed}
+use Rattle.site.specs.declared.Rule.TheVariants.{NoBytes, OuterCut, OuterTag, TooMany, InnerCut, InnerTag, BadLength, OutOfRange, NotRising, SharesNotWhole, BufferShort, BadConcentration, NoReading, PairTooLarge, BadList, NotListed, NotConvertible}
 use Rattle.site.specs.Refusal.{Checked, rule_number, checked_number, Numbered, passes, bad_length, out_of_range, not_rising, shares_not_whole, not_listed, and_then}
 use Rattle.std.specs.Prelude.{Ok, Err}
 use Rattle.std.specs.List.{list_all}
@@ -42,6 +42,7 @@ number_of (Err NoReading) e = absurd (false≢true e)
 number_of (Err PairTooLarge) e = absurd (false≢true e)
 number_of (Err BadList) e = absurd (false≢true e)
 number_of (Err NotListed) e = not_listed
+number_of (Err NotConvertible) e = absurd (false≢true e)
 
 pub numbered : (a b : Checked) → a ≡ b → known b ≡ true → Numbered b (checked_number a)
 numbered a b e k = rw e (number_of b k)

@@ -1,4 +1,4 @@
--- What the calculation leans on at a site that passes the check: upper bounds of its values, and the least ratio.
+-- What the calculation leans on at a site that passes the check: upper bounds of its values, the least ratio, and what the shares add up to.
 use Rattle.std.specs.Prelude.{ℕ, ◌≤◌, ◌<◌, ◌≡◌, List, get_or, take}
 use Rattle.site.specs.declared.Site.{Site}
 use Rattle.site.specs.declared.Entry.{Entry}

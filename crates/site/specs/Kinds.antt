@@ -37,11 +37,12 @@ entry_width k = pick (two_byte_species k) 5 4
 abbrev pub reference_temperature : ℕ
 reference_temperature = 13
 
--- the temperature byte that counts at a site: for kind 52 it is no part of the site
-abbrev temperature_in : RecordKind → ℕ → ℕ
-temperature_in Tag52 byte = reference_temperature
-temperature_in Tag53 byte = byte
-temperature_in Tag54 byte = byte
+-- whether a record has the field 10
+abbrev pub has_temperature : RecordKind → Bool
+has_temperature Tag52 = false
+has_temperature Tag53 = true
+has_temperature Tag54 = true
 
+-- the temperature byte that counts at a site: for kind 52 it is no part of the site
 unfoldable pub counted_temperature : Site → ℕ
-counted_temperature s = temperature_in s.kind s.temperature
+counted_temperature s = pick (has_temperature s.kind) s.temperature reference_temperature

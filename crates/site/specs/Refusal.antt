@@ -2,7 +2,7 @@
 use Rattle.std.specs.Prelude.{ℕ, List, [], ◌∷◌, Result, Ok, Err}
 use Rattle.site.specs.declared.Rule.{Rule}
 use Rattle.site.specs.declared.Refusal.{Refusal}
-use Rattle.site.specs.declared.Rule.TheVariants.{NoBytes, OuterCut, OuterTag, TooMany, InnerCut, InnerTag, BadLength, OutOfRange, NotRising, SharesNotWhole, BufferShort, BadConcentration, NoReading, PairTooLarge, BadList, NotListed}
+use Rattle.site.specs.declared.Rule.TheVariants.{NoBytes, OuterCut, OuterTag, TooMany, InnerCut, InnerTag, BadLength, OutOfRange, NotRising, SharesNotWhole, BufferShort, BadConcentration, NoReading, PairTooLarge, BadList, NotListed, NotConvertible}
 
 abbrev pub rule_number : Rule → ℕ
 rule_number NoBytes = 1
@@ -21,6 +21,7 @@ rule_number NoReading = 13
 rule_number PairTooLarge = 14
 rule_number BadList = 15
 rule_number NotListed = 16
+rule_number NotConvertible = 17
 
 -- what a check says: it passes, or the rule that is broken
 abbrev pub Checked : Type 0

@@ -1,6 +1,6 @@
 // What the kind of a record says: its outer tag, its fields, and what stands for those it lacks.
 ghost use Rattle.std.specs.Prelude.{◌≡◌, ◌+◌, length};
-ghost use Rattle.site.specs.Kinds.{kind_tag, kind_by, due, two_byte_species, entry_width, counted_temperature};
+ghost use Rattle.site.specs.Kinds.{kind_tag, kind_by, due, two_byte_species, entry_width, has_temperature, counted_temperature};
 
 use crate::{RecordKind, Rule, Site};
 
@@ -43,6 +43,13 @@ impl RecordKind {
     {
         if self.two_byte_species() { 5 } else { 4 }
     }
+
+    // Whether it has the field 10.
+    pub fn has_temperature(self) -> bool
+        ensures { result ≡ has_temperature self }
+    {
+        0x10 < self.end()
+    }
 }
 
 // The kind of an outer tag, or rule 3.
@@ -67,10 +74,10 @@ impl Site {
     pub fn counted_temperature(self) -> u8
         ensures { result ≡ counted_temperature self }
     {
-        match self.kind {
-            RecordKind::Tag52 => REFERENCE_TEMPERATURE,
-            RecordKind::Tag53 => self.temperature,
-            RecordKind::Tag54 => self.temperature,
+        if self.kind.has_temperature() {
+            self.temperature
+        } else {
+            REFERENCE_TEMPERATURE
         }
     }
 }

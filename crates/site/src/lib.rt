@@ -100,6 +100,7 @@ pub enum Rule {
     PairTooLarge = 14,
     BadList = 15,
     NotListed = 16,
+    NotConvertible = 17,
 }
 
 // The rule that is broken, and the offset of the fault.
