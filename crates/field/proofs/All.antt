@@ -1,7 +1,7 @@
 -- Something of each element of a list.
 use mathlib.Core.Path.{◌≡◌}
 use mathlib.Core.Bool.{Bool, true}
-use mathlib.Core.List.{List, [], ◌∷◌}
+use mathlib.Core.List.{List, [], ◌∷◌, ◌++◌}
 use Prim.Native.Nat.{ℕ, zero, suc, ◌<◌}
 use native.Mathlib.Omega.{arith}
 use lib.ListN.{length, get_or}
@@ -30,6 +30,10 @@ module _ {A : Type 0} where
   pub zip_all : {P Q R : A → Type 0} → ((x : A) → P x → Q x → R x) → {xs : List A} → All P xs → All Q xs → All R xs
   zip_all f none none = none
   zip_all f (p ▸ ps) (q ▸ qs) = f _ p q ▸ zip_all f ps qs
+
+  pub all_append : {P : A → Type 0} {xs ys : List A} → All P xs → All P ys → All P (xs ++ ys)
+  all_append none qs = qs
+  all_append (p ▸ ps) qs = p ▸ all_append ps qs
 
   pub all_at : {P : A → Type 0} {xs : List A} → All P xs → (k : ℕ) (d : A) → k < length xs → P (get_or xs k d)
   all_at none k d h = absurd (omega arith)

@@ -25,7 +25,7 @@ use Rattle.record.proofs.FileLaws.{contents_none, contents_some, contents_every,
 use Rattle.record.proofs.FirstFaultLaws.{first_in_record, first_in_file, file_fault_near}
 use Rattle.record.proofs.FieldBytes.{part_bytes}
 use Rattle.record.proofs.PairLaws.{PairRange, pair_range}
-use Rattle.record.proofs.Place.{site_take, site_fault_near, site_near, site_inside, site_after, site_passes, site_bytes, site_read}
+use Rattle.record.proofs.Place.{site_take, site_fault_near, site_near, site_inside, site_after, site_passes, site_clean, site_bytes, site_read}
 
 module _ (list f : List ℕ) where
   pub sites_none : length f ≤ 0 → contents list f ≡ Err (record { rule = NoBytes; at = 0 })
@@ -66,6 +66,11 @@ module _ (list f : List ℕ) where
   pub sites_checked : (ss : List Site) → contents list f ≡ Ok ss → (length ss ≤ most_records) × All (λ s. site_rule list s ≡ Ok tt) ss
   unfolding contents
   sites_checked ss e = contents_every (site_at list f) (length f) (λ s. site_rule list s ≡ Ok tt) (λ at x r. site_passes list f at r) most_records ss e
+
+  -- and each has zeros past its name and entries, and the temperature that counts
+  pub sites_clean : (ss : List Site) → contents list f ≡ Ok ss → All (λ s. clean s ≡ s) ss
+  unfolding contents
+  sites_clean ss e = (contents_every (site_at list f) (length f) (λ s. clean s ≡ s) (λ at x r. site_clean list f at r) most_records ss e).1
 
   -- and S and N of each, where the file is bytes, are in their range
   pub sites_pairs : AllBytes f → (ss : List Site) → contents list f ≡ Ok ss → All PairRange ss

@@ -32,10 +32,10 @@ use Rattle.record.proofs.Trips.{rises, through, every, written_again_lem, store_
 
 -- ---- a site passes exactly where its fields do
 
-fields_passed : (list : List ℕ) (k : RecordKind) (ts : List ℕ) (s : Site) → All (λ t. AsRead list k t s) ts → fields_rule list k ts s ≡ Ok tt
+pub fields_passed : (list : List ℕ) (k : RecordKind) (ts : List ℕ) (s : Site) → All (λ t. (count_rule t s ≡ Ok tt) × (value_rule list k t s ≡ Ok tt)) ts → fields_rule list k ts s ≡ Ok tt
 unfolding fields_rule and_then
 fields_passed list k [] s none = refl
-fields_passed list k (t ∷ ts) s (r ▸ rs) = rw (r.count, r.rule) (fields_passed list k ts s rs)
+fields_passed list k (t ∷ ts) s (p ▸ ps) = rw (p.0, p.1) (fields_passed list k ts s ps)
 
 passed_fields : (list : List ℕ) (k : RecordKind) (ts : List ℕ) (s : Site) → fields_rule list k ts s ≡ Ok tt → All (λ t. (count_rule t s ≡ Ok tt) × (value_rule list k t s ≡ Ok tt)) ts
 unfolding fields_rule
@@ -65,7 +65,7 @@ module _ (list : List ℕ) (k : RecordKind) (s : Site) (bs : List ℕ) (at : ℕ
 
   pub walked_passes : site_rule list s ≡ Ok tt
   unfolding site_rule
-  walked_passes = ap (λ j. fields_rule list j (due j) s) walked_kind ∙ fields_passed list k (due k) s as_read
+  walked_passes = ap (λ j. fields_rule list j (due j) s) walked_kind ∙ fields_passed list k (due k) s (map-all (λ t (r : AsRead list k t s). (r.count, r.rule)) as_read)
 
   -- and is written as it was
   pub encode_read : AllBytes bs → encode_fields (site_kind list k) (due k) s ≡ bs

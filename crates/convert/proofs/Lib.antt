@@ -1,0 +1,2 @@
+pub mod MovedLaws
+pub mod ConvertedLaws

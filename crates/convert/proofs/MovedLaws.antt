@@ -1,0 +1,257 @@
+-- A site that a record of another kind can hold is the same site there: it passes the check, has the same terms, loads and mark, and comes back as it was.
+use mathlib.Core.Path.{◌≡◌, refl, sym, ap, ◌∙◌}
+use mathlib.Core.Bool.{Bool, true, false, ◌&&◌, ◌||◌, false≢true}
+use mathlib.Core.List.{List, [], ◌∷◌, ◌++◌}
+use Prim.Native.Nat.{ℕ, ◌+◌, ◌≤◌, ◌<◌}
+use native.Mathlib.Omega.{arith}
+use borrow.Author.Tests.{leb-true, ltb-true, eqb-true, le-leb, lt-ltb}
+use lib.Dec.{leb, ltb, eqb}
+use lib.ListN.{length, take, length-take, length-append, replicate}
+use Rattle.std.specs.List.{list_all}
+use Rattle.std.proofs.lemmas.List.{length-replicate}
+use Rattle.std.specs.Prelude.{Ok}
+use Rattle.site.specs.Bounds.{no_entry}
+use Rattle.site.specs.Check.{site_rule, fields_rule}
+use Rattle.site.specs.Kinds.{due, two_byte_species, has_temperature, reference_temperature, counted_temperature}
+use Rattle.site.specs.OneSite.{OneSite}
+use Rattle.site.specs.Ranges.{most_species, listed_range, share_range, most_yield, temperature_range}
+use Rattle.site.specs.Choice.{pick}
+use Rattle.site.specs.Refusal.{Checked, and_then}
+use Rattle.site.specs.Values.{count_rule, item_count, value_rule, between, inside, ranged, species_ranged, entry_ranged, order_rule, entries_rule, rising_from, shares_of, known_rule, stand_rule}
+use Rattle.site.specs.declared.Entry.{Entry}
+use Rattle.site.specs.declared.RecordKind.{RecordKind}
+use Rattle.site.specs.declared.RecordKind.TheVariants.{Tag52, Tag53, Tag54}
+use Rattle.site.specs.declared.Rule.TheVariants.{OutOfRange, NotConvertible}
+use Rattle.site.specs.declared.Site.{Site}
+use Rattle.site.proofs.FieldLaws.{site_passed, due_passed}
+use Rattle.site.proofs.Passing.{pass_then, both_passed, inside_both}
+use Rattle.site.proofs.BoundsLaw.{site_ranged}
+use Rattle.site.proofs.NarrowLaws.{narrow_species}
+use Rattle.site.proofs.Tests.{and_l, and_r}
+use Rattle.loads.specs.SiteTerms.{terms_of}
+use Rattle.loads.proofs.OneSiteLaws.{terms_same}
+use Rattle.judgement.specs.Answers.{judged_of}
+use Rattle.field.specs.Clean.{clean, Sized}
+use Rattle.field.proofs.All.{All, none, ◌▸◌, all_append}
+use Rattle.record.proofs.SiteTrips.{fields_passed}
+use Rattle.listing.specs.Rows.{row_by, row_of}
+use Rattle.convert.specs.Moved.{moved, held_by, species_held, temperature_held, Converts}
+
+-- what rule 17 says where it passes
+held_true : (b : Bool) → held_by b ≡ Ok tt → b ≡ true
+held_true b e = (pass_then b NotConvertible (Ok tt) e).0
+
+-- ---- the temperature that counts stays
+
+module _ (k : RecordKind) (s : Site) (held : temperature_held k s ≡ Ok tt) where
+  pub counted_moved : counted_temperature (moved k s) ≡ counted_temperature s
+  unfolding counted_temperature temperature_held moved
+  counted_moved = by_kind k (held_true _ held)
+    where
+      by_kind : (j : RecordKind) → has_temperature j || eqb (counted_temperature s) reference_temperature ≡ true
+          → counted_temperature (record s { kind = j; temperature = counted_temperature s; }) ≡ counted_temperature s
+      by_kind Tag52 e = sym (eqb-true (counted_temperature s) reference_temperature e)
+      by_kind Tag53 e = refl
+      by_kind Tag54 e = refl
+
+  -- so it is one site with the one it comes from
+  pub one_moved : OneSite (moved k s) s
+  unfolding moved
+  one_moved = record {
+    parent = refl;
+    clay = refl;
+    sand = refl;
+    depth = refl;
+    drainage = refl;
+    percolation = refl;
+    stand = refl;
+    immobilisation = refl;
+    available = refl;
+    deposition = refl;
+    ratio = refl;
+    gibbsite = refl;
+    ceiling = refl;
+    leachate = refl;
+    temperature = counted_moved;
+  }
+
+  module _ (list : List ℕ) where
+    -- and has the same terms
+    pub moved_terms : terms_of list (moved k s) ≡ terms_of list s
+    moved_terms = terms_same list (moved k s) s one_moved
+
+    -- so the same loads and the same mark
+    pub moved_judged : judged_of list (moved k s) ≡ judged_of list s
+    unfolding judged_of moved
+    moved_judged = rw moved_terms
+
+    -- and the same line
+    pub moved_row : row_of list (moved k s) ≡ row_of list s
+    unfolding row_of row_by moved
+    moved_row = rw moved_judged
+
+-- ---- its species stay in the range of the new kind
+
+-- a species in the range of one kind is in that of another which has two bytes for it, or where it is below 256
+species_moved : (j k : RecordKind) (n : ℕ) → species_ranged j n ≡ true → two_byte_species k || ltb n 256 ≡ true → species_ranged k n ≡ true
+species_moved j k n p q = by_table (leb n most_species) (two_byte_species k) (ltb n 256) refl refl p q
+  where
+    by_table : (a w l : Bool) → ltb n 256 ≡ l → two_byte_species k ≡ w → a || two_byte_species j && inside listed_range n ≡ true → w || l ≡ true
+        → a || w && inside listed_range n ≡ true
+    by_table true w l small wide p q = refl
+    by_table false true l small wide p q = and_r (two_byte_species j) (inside listed_range n) p
+    by_table false false true small wide p q =
+        absurd (omega (arith, ltb-true n 256 small, (inside_both listed_range n (and_r (two_byte_species j) (inside listed_range n) p)).0))
+    by_table false false false small wide p q = absurd (false≢true q)
+
+entry_moved : (j k : RecordKind) (e : Entry) → entry_ranged j e ≡ true → two_byte_species k || ltb e.species 256 ≡ true → entry_ranged k e ≡ true
+unfolding entry_ranged
+entry_moved j k e p q =
+    let share = inside share_range e.share in
+    let yielded = leb e.yield_kg most_yield in
+    let first = and_l (species_ranged j e.species && share) yielded p in
+    rw (species_moved j k e.species (and_l (species_ranged j e.species) share first) q, and_r (species_ranged j e.species) share first, and_r (species_ranged j e.species && share) yielded p) refl
+
+entries_moved : (j k : RecordKind) (es : List Entry) → list_all (entry_ranged j) es ≡ true → two_byte_species k || list_all (λ e. ltb e.species 256) es ≡ true
+    → list_all (entry_ranged k) es ≡ true
+entries_moved j k [] p q = refl
+entries_moved j k (e ∷ es) p q =
+    let here = each (two_byte_species k) q in
+    rw (entry_moved j k e (and_l (entry_ranged j e) (list_all (entry_ranged j) es) p) here.0, entries_moved j k es (and_r (entry_ranged j e) (list_all (entry_ranged j) es) p) here.1) refl
+  where
+    small : Entry → Bool
+    small x = ltb x.species 256
+
+    each : (w : Bool) → w || small e && list_all small es ≡ true → (w || small e ≡ true) × (w || list_all small es ≡ true)
+    each true q = (refl, refl)
+    each false q = (and_l (small e) (list_all small es) q, and_r (small e) (list_all small es) q)
+
+stand_moved : (list : List ℕ) (j k : RecordKind) (es : List Entry) → stand_rule list j es ≡ Ok tt → two_byte_species k || list_all (λ e. ltb e.species 256) es ≡ true
+    → stand_rule list k es ≡ Ok tt
+unfolding stand_rule entries_rule and_then
+stand_moved list j k es p q =
+    let rules = both_passed (entries_rule j es) (known_rule list es) p in
+    let ranged_then = pass_then (list_all (entry_ranged j) es) OutOfRange _ rules.0 in
+    rw (entries_moved j k es ranged_then.0 q, ranged_then.1, rules.1)
+
+-- ---- it passes the check
+
+-- something of every field: of 01 to 0F, and of 10
+due_all : {P : ℕ → Type 0} → All P (due Tag52) → P 16 → (k : RecordKind) → All P (due k)
+due_all ps p Tag52 = ps
+due_all ps p Tag53 = all_append ps (p ▸ none)
+due_all ps p Tag54 = all_append ps (p ▸ none)
+
+module _ (list : List ℕ) (k : RecordKind) (s : Site) (e : site_rule list s ≡ Ok tt) (c : Converts k s) where
+  -- the rules of field t
+  abbrev Passes : ℕ → Type 0
+  Passes t = (count_rule t (moved k s) ≡ Ok tt) × (value_rule list k t (moved k s) ≡ Ok tt)
+
+  wide : two_byte_species k || list_all (λ x. ltb x.species 256) (take s.stand.count s.stand.entries) ≡ true
+  unfolding species_held
+  wide = held_true _ c.species
+
+  -- a field of 01 to 0F that has the rules of the site it comes from: all but the stand
+  kept : (t : ℕ) → 1 ≤ t → t ≤ 15 → (count_rule t s ≡ Ok tt) × (value_rule list s.kind t s ≡ Ok tt)
+  kept t some most = site_passed list s e t some most
+
+  stand_kept : Passes 7
+  unfolding moved count_rule item_count value_rule
+  stand_kept = let p = kept 7 (omega arith) (omega arith) in (p.0, stand_moved list s.kind k (take s.stand.count s.stand.entries) p.1 wide)
+
+  fifteen : All Passes (due Tag52)
+  unfolding moved count_rule item_count value_rule
+  fifteen =
+      kept 1 (omega arith) (omega arith) ▸ kept 2 (omega arith) (omega arith) ▸ kept 3 (omega arith) (omega arith) ▸ kept 4 (omega arith) (omega arith)
+      ▸ kept 5 (omega arith) (omega arith) ▸ kept 6 (omega arith) (omega arith) ▸ stand_kept ▸ kept 8 (omega arith) (omega arith)
+      ▸ kept 9 (omega arith) (omega arith) ▸ kept 10 (omega arith) (omega arith) ▸ kept 11 (omega arith) (omega arith) ▸ kept 12 (omega arith) (omega arith)
+      ▸ kept 13 (omega arith) (omega arith) ▸ kept 14 (omega arith) (omega arith) ▸ kept 15 (omega arith) (omega arith) ▸ none
+
+  -- the temperature that counts is in its range, whatever the kind
+  counted_ranged : between temperature_range (counted_temperature s) ≡ Ok tt
+  unfolding counted_temperature between value_rule
+  counted_ranged = by_kind s.kind refl
+    where
+      by_kind : (j : RecordKind) → s.kind ≡ j → between temperature_range (pick (has_temperature j) s.temperature reference_temperature) ≡ Ok tt
+      by_kind Tag52 is = refl
+      by_kind Tag53 is = (due_passed list s e 16 (omega arith) (rw is (omega arith))).1
+      by_kind Tag54 is = (due_passed list s e 16 (omega arith) (rw is (omega arith))).1
+
+  sixteen : Passes 16
+  unfolding moved count_rule item_count value_rule
+  sixteen = (refl, counted_ranged)
+
+  pub moved_passes : site_rule list (moved k s) ≡ Ok tt
+  unfolding site_rule moved
+  moved_passes = fields_passed list k (due k) (moved k s) (due_all fifteen sixteen k)
+
+-- ---- it comes back as it was
+
+padded : {A : Type 0} (n : ℕ) (xs : List A) (d : A) → length (take n (xs ++ replicate n d)) ≡ n
+padded n xs d = omega (arith, length-take n (xs ++ replicate n d), length-append xs (replicate n d), length-replicate n d)
+
+-- a site that was read has the temperature that counts in its place
+module _ (k : RecordKind) (s : Site) (tidy : clean s ≡ s) where
+  counted_here : counted_temperature s ≡ s.temperature
+  unfolding clean
+  counted_here = ap (λ (x : Site). x.temperature) tidy
+
+  pub moved_clean : temperature_held k s ≡ Ok tt → clean (moved k s) ≡ moved k s
+  unfolding clean moved
+  moved_clean held =
+      let name : (clean s).name ≡ s.name = ap (λ (x : Site). x.name) tidy in
+      let stand : (clean s).stand ≡ s.stand = ap (λ (x : Site). x.stand) tidy in
+      rw (name, stand, counted_moved k s held)
+
+  pub moved_back : temperature_held k s ≡ Ok tt → moved s.kind (moved k s) ≡ s
+  unfolding moved
+  moved_back held = rw (counted_moved k s held, counted_here)
+
+  pub moved_itself : moved s.kind s ≡ s
+  unfolding moved
+  moved_itself = rw counted_here
+
+  pub moved_sized : Sized (moved k s)
+  unfolding clean moved
+  moved_sized = record {
+    name = ap (λ (x : Site). length x.name.bytes) (sym tidy) ∙ padded 8 (take s.name.len s.name.bytes) 0;
+    stand = ap (λ (x : Site). length x.stand.entries) (sym tidy) ∙ padded 4 (take s.stand.count s.stand.entries) no_entry;
+  }
+
+abbrev small_species : Entry → Bool
+small_species x = ltb x.species 256
+
+-- the species of a kind that has one byte for them
+all_small : (k : RecordKind) → two_byte_species k ≡ false → (es : List Entry) → list_all (entry_ranged k) es ≡ true → list_all small_species es ≡ true
+all_small k narrow [] p = refl
+all_small k narrow (x ∷ xs) p =
+    let here = narrow_species k narrow x (and_l (entry_ranged k x) (list_all (entry_ranged k) xs) p) in
+    rw (lt-ltb x.species 256 (omega arith)) (all_small k narrow xs (and_r (entry_ranged k x) (list_all (entry_ranged k) xs) p))
+
+-- a kind holds every site of its own that passes
+module _ (list : List ℕ) (s : Site) (e : site_rule list s ≡ Ok tt) where
+  own_species : species_held s.kind s ≡ Ok tt
+  unfolding species_held
+  own_species = by_kind s.kind refl
+    where
+      by_kind : (k : RecordKind) → s.kind ≡ k → held_by (two_byte_species k || list_all small_species (take s.stand.count s.stand.entries)) ≡ Ok tt
+      by_kind Tag52 is = rw (all_small Tag52 refl (take s.stand.count s.stand.entries) (rw is at (site_ranged list s e)))
+      by_kind Tag53 is = rw (all_small Tag53 refl (take s.stand.count s.stand.entries) (rw is at (site_ranged list s e)))
+      by_kind Tag54 is = refl
+
+  own_temperature : temperature_held s.kind s ≡ Ok tt
+  unfolding temperature_held counted_temperature
+  own_temperature = by_kind s.kind
+    where
+      by_kind : (k : RecordKind) → held_by (has_temperature k || eqb (pick (has_temperature k) s.temperature reference_temperature) reference_temperature) ≡ Ok tt
+      by_kind Tag52 = refl
+      by_kind Tag53 = refl
+      by_kind Tag54 = refl
+
+  pub own_converts : Converts s.kind s
+  own_converts = record { species = own_species; temperature = own_temperature }
+
+  -- and what has been moved can be moved back
+  pub back_converts : (k : RecordKind) → temperature_held k s ≡ Ok tt → Converts s.kind (moved k s)
+  unfolding species_held temperature_held moved
+  back_converts k held = record { species = own_species; temperature = rw (counted_moved k s held) own_temperature }

@@ -1,0 +1,37 @@
+-- A site as a record of another kind has it, and what such a record cannot hold: document 02, E7.
+use Rattle.std.specs.List.{list_all}
+use Rattle.std.specs.Prelude.{ℕ, ◌+◌, ◌-◌, ◌≡◌, Bool, ◌||◌, List, [], ltb, eqb, length, take, Ok, Err}
+use Rattle.site.specs.Choice.{pick}
+use Rattle.site.specs.Kinds.{due, two_byte_species, has_temperature, reference_temperature, counted_temperature}
+use Rattle.site.specs.Refusal.{Checked}
+use Rattle.site.specs.declared.Entry.{Entry}
+use Rattle.site.specs.declared.RecordKind.{RecordKind}
+use Rattle.site.specs.declared.Rule.TheVariants.{NotConvertible}
+use Rattle.site.specs.declared.Site.{Site}
+use Rattle.field.specs.Field.{site_kind}
+use Rattle.record.specs.Fields.{encode_fields}
+
+-- into kind k: every value stays, and the temperature is the one that counts, which at a site of kind 52 is 8 °C
+unfoldable pub moved : RecordKind → Site → Site
+moved k s = record s { kind = k; temperature = counted_temperature s; }
+
+-- rule 17
+abbrev pub held_by : Bool → Checked
+held_by b = pick b (Ok tt) (Err NotConvertible)
+
+-- field 07: where a species has one byte, all species are below 256
+unfoldable pub species_held : RecordKind → Site → Checked
+species_held k s = held_by (two_byte_species k || list_all (λ e. ltb e.species 256) (take s.stand.count s.stand.entries))
+
+-- field 10: where a record has none, the temperature is 8 °C
+unfoldable pub temperature_held : RecordKind → Site → Checked
+temperature_held k s = held_by (has_temperature k || eqb (counted_temperature s) reference_temperature)
+
+-- a record of kind k can hold the site
+pub record Converts (k : RecordKind) (s : Site) : Type 0 where
+  pub species : species_held k s ≡ Ok tt
+  pub temperature : temperature_held k s ≡ Ok tt
+
+-- where the field t of a site's record starts, counted from the start of the record: behind the outer head and the fields before it
+unfoldable pub field_start : ℕ → Site → ℕ
+field_start t s = 3 + length (encode_fields (site_kind [] s.kind) (take (t - 1) (due s.kind)) s)

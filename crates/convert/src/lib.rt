@@ -1,0 +1,2 @@
+// The records of a file moved to one kind.
+#![tactic(auto)]
