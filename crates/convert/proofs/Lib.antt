@@ -1,2 +1,5 @@
 pub mod MovedLaws
 pub mod ConvertedLaws
+pub mod FieldStarts
+pub mod SameRecordsLaws
+pub mod FaultLaws

@@ -1,0 +1,76 @@
+-- 17 names a field of the file: at its offset stands the tag 07 or 10.
+use mathlib.Core.Path.{◌≡◌, refl, ap, ◌∙◌}
+use mathlib.Core.Bool.{Bool, true, false, ◌||◌, or-true}
+use mathlib.Core.Logic.{◌⊎◌, inl, inr}
+use mathlib.Core.List.{List, ◌∷◌, ◌++◌}
+use Prim.Native.Nat.{ℕ, ◌+◌, ◌-◌}
+use lib.Dec.{eqb}
+use lib.ListN.{length, get_or, take, drop}
+use Rattle.std.specs.Prelude.{Ok, Err}
+use Rattle.std.proofs.lemmas.Grind.{flat_map-append}
+use Rattle.std.proofs.lemmas.List.{get_or-append-add}
+use Rattle.numbers.specs.TwoBytes.{AllBytes}
+use Rattle.site.specs.Choice.{pick}
+use Rattle.site.specs.Kinds.{due, has_temperature, reference_temperature, counted_temperature}
+use Rattle.site.specs.declared.RecordKind.{RecordKind}
+use Rattle.site.specs.declared.RecordKind.TheVariants.{Tag52, Tag53, Tag54}
+use Rattle.site.specs.declared.Refusal.{Refusal}
+use Rattle.site.specs.declared.Rule.{Rule}
+use Rattle.site.specs.declared.Rule.TheVariants.{NotConvertible}
+use Rattle.site.specs.declared.Site.{Site}
+use Rattle.record.specs.File.{contents}
+use Rattle.record.specs.Writer.{encode}
+use Rattle.record.proofs.SiteFile.{sites_written}
+use Rattle.convert.specs.Moved.{held_by, species_held, temperature_held, field_start}
+use Rattle.convert.specs.Converted.{all_moved, file_of, NotHeld, stand, temperature, FirstNotHeld}
+use Rattle.convert.proofs.ConvertedLaws.{first_not_held}
+use Rattle.convert.proofs.FieldStarts.{starts}
+
+not_held : (b : Bool) {r : Rule} → held_by b ≡ Err r → r ≡ NotConvertible
+not_held true e = cc
+not_held false e = cc
+
+-- a site whose temperature a record without field 10 cannot hold has this field
+pub has_field_10 : (k : RecordKind) (s : Site) {r : Rule} → temperature_held k s ≡ Err r → has_temperature s.kind ≡ true
+unfolding temperature_held counted_temperature
+has_field_10 k s {r} e = by_kind s.kind e
+  where
+    by_kind : (j : RecordKind) → held_by (has_temperature k || eqb (pick (has_temperature j) s.temperature reference_temperature) reference_temperature) ≡ Err r → has_temperature j ≡ true
+    by_kind Tag52 e = let passed = rw or-true at e in cc
+    by_kind Tag53 e = refl
+    by_kind Tag54 e = refl
+
+-- where the two fields stand among those that are due
+stand_due : (k : RecordKind) → due k ≡ take 6 (due k) ++ 7 ∷ drop 7 (due k)
+stand_due Tag52 = refl
+stand_due Tag53 = refl
+stand_due Tag54 = refl
+
+temperature_due : (k : RecordKind) → has_temperature k ≡ true → due k ≡ take 15 (due k) ++ 16 ∷ drop 16 (due k)
+temperature_due Tag52 has = cc
+temperature_due Tag53 has = refl
+temperature_due Tag54 has = refl
+
+module _ (list f : List ℕ) (b : AllBytes f) (k : RecordKind) (ss : List Site) (e : contents list f ≡ Ok ss) {r : Refusal} (fault : all_moved k 0 ss ≡ Err r) where
+  first : FirstNotHeld k ss r
+  first = first_not_held k ss fault
+
+  bytes : f ≡ file_of first.before ++ (encode first.site ++ file_of first.after)
+  bytes = sites_written list f b ss e ∙ ap file_of first.order ∙ flat_map-append encode first.before (first.site ∷ first.after)
+
+  -- the field t of this record starts with its tag
+  there : (t : ℕ) → due first.site.kind ≡ take (t - 1) (due first.site.kind) ++ t ∷ drop t (due first.site.kind)
+      → r.at ≡ length (file_of first.before) + field_start t first.site → get_or f r.at 0 ≡ t
+  there t order at =
+      ap (λ (n : ℕ). get_or f n 0) at
+      ∙ ap (λ (bs : List ℕ). get_or bs (length (file_of first.before) + field_start t first.site) 0) bytes
+      ∙ get_or-append-add (file_of first.before) (encode first.site ++ file_of first.after) (field_start t first.site) 0
+      ∙ starts first.site t (drop t (due first.site.kind)) (file_of first.after) order
+
+  pub fault_at_field : (r.rule ≡ NotConvertible) × ((get_or f r.at 0 ≡ 7) ⊎ (get_or f r.at 0 ≡ 16))
+  unfolding species_held temperature_held
+  fault_at_field = by_field first.here
+    where
+      by_field : NotHeld k (length (file_of first.before)) first.site r → (r.rule ≡ NotConvertible) × ((get_or f r.at 0 ≡ 7) ⊎ (get_or f r.at 0 ≡ 16))
+      by_field (stand broken at) = (not_held _ broken, inl (there 7 (stand_due first.site.kind) at))
+      by_field (temperature held broken at) = (not_held _ broken, inr (there 16 (temperature_due first.site.kind (has_field_10 k first.site broken)) at))

@@ -1,0 +1,124 @@
+-- A converted file passes the checks with the same terms, loads and marks, and converts back to its own bytes.
+use mathlib.Core.Path.{◌≡◌, refl, sym, ap, subst, ◌∙◌}
+use mathlib.Core.Logic.{◌⊎◌, inl, inr, ⊎_elim}
+use mathlib.Core.List.{List, [], ◌∷◌, ◌++◌, map}
+use Prim.Native.Nat.{ℕ, zero, suc, ◌+◌, ◌-◌, ◌≤◌, ◌<◌}
+use native.Mathlib.Omega.{arith}
+use lib.ListN.{length, get_or, take, length-map}
+use Rattle.std.specs.Prelude.{Ok, Err, flat_map}
+use Rattle.std.proofs.lemmas.Simd.{map-map}
+use Rattle.numbers.specs.TwoBytes.{AllBytes}
+use Rattle.site.specs.Check.{site_rule}
+use Rattle.site.specs.Kinds.{due}
+use Rattle.site.specs.Ranges.{most_records}
+use Rattle.site.specs.declared.RecordKind.{RecordKind}
+use Rattle.site.specs.declared.RecordKind.TheVariants.{Tag52, Tag53, Tag54}
+use Rattle.site.specs.declared.Refusal.{Refusal}
+use Rattle.site.specs.declared.Site.{Site}
+use Rattle.site.proofs.Tests.{le_or_lt}
+use Rattle.loads.specs.SiteTerms.{terms_of}
+use Rattle.judgement.specs.Answers.{judged_of}
+use Rattle.field.specs.Clean.{clean, Sized}
+use Rattle.field.specs.Field.{blank_site}
+use Rattle.field.proofs.All.{All, none, ◌▸◌, map-all, zip_all}
+use Rattle.record.specs.File.{Contents, contents}
+use Rattle.record.specs.Writer.{encode}
+use Rattle.record.proofs.SiteFile.{sites_none, sites_checked, sites_clean, sites_written, sites_read}
+use Rattle.text.specs.declared.Row.{Row}
+use Rattle.text.specs.Listing.{listing}
+use Rattle.listing.specs.Rows.{row_of}
+use Rattle.listing.specs.Reports.{printed, report_of}
+use Rattle.convert.specs.Moved.{moved, temperature_held, Converts}
+use Rattle.convert.specs.Converted.{all_moved, converted, file_of}
+use Rattle.convert.specs.SameRecords.{OfKind, SameRecords}
+use Rattle.convert.proofs.MovedLaws.{moved_terms, moved_judged, moved_row, moved_passes, moved_clean, moved_back, moved_itself, moved_sized, own_converts, back_converts}
+use Rattle.convert.proofs.ConvertedLaws.{all_converts, all_moved_ok}
+
+-- ---- all sites of a list
+
+all_moved_by : {B : Type 0} (h : Site → B) (k : RecordKind) (ss : List Site) → All (λ s. h (moved k s) ≡ h s) ss → map h (map (moved k) ss) ≡ map h ss
+all_moved_by h k [] none = refl
+all_moved_by h k (s ∷ ss) (p ▸ ps) = rw (p, all_moved_by h k ss ps)
+
+map_same : (f : Site → Site) (ss : List Site) → All (λ s. f s ≡ s) ss → map f ss ≡ ss
+map_same f [] none = refl
+map_same f (s ∷ ss) (p ▸ ps) = rw (p, map_same f ss ps)
+
+map_each : {P : Site → Type 0} (f : Site → Site) (ss : List Site) → All (λ s. P (f s)) ss → All P (map f ss)
+map_each f [] none = none
+map_each f (s ∷ ss) (p ▸ ps) = p ▸ map_each f ss ps
+
+of_kind : (k : RecordKind) (ss : List Site) → OfKind k ss → All (λ s. s.kind ≡ k) ss
+of_kind k [] h = none
+of_kind k (s ∷ ss) h = h 0 (omega arith) ▸ of_kind k ss (λ i l. h (suc i) (omega arith))
+
+-- ---- a file that passes, all of whose sites a record of kind k can hold
+
+module _ (list f : List ℕ) (b : AllBytes f) (k : RecordKind) (ss : List Site) (e : contents list f ≡ Ok ss) (c : All (Converts k) ss) where
+  passed : All (λ s. site_rule list s ≡ Ok tt) ss
+  passed = (sites_checked list f ss e).1
+
+  tidy : All (λ s. clean s ≡ s) ss
+  tidy = sites_clean list f ss e
+
+  held : All (λ s. temperature_held k s ≡ Ok tt) ss
+  held = map-all (λ s (x : Converts k s). x.temperature) c
+
+  some : 1 ≤ length ss
+  some = by_sites ss refl
+    where
+      by_sites : (xs : List Site) → ss ≡ xs → 1 ≤ length xs
+      by_sites (x ∷ xs) is = omega arith
+      by_sites [] is =
+          let nothing : f ≡ [] = sites_written list f b ss e ∙ rw is refl in
+          let bad = sym (sites_none list f (rw nothing (omega arith))) ∙ e in
+          cc
+
+  -- the converted file passes, and holds the sites that were moved
+  pub converted_passes : contents list (file_of (map (moved k) ss)) ≡ Ok (map (moved k) ss)
+  converted_passes =
+      let sized : All (λ s. Sized (moved k s) × (site_rule list (moved k s) ≡ Ok tt)) ss = zip_all (λ s t p. (moved_sized k s t, p)) tidy (zip_all (λ s p x. moved_passes list k s p x) passed c) in
+      let most = (sites_checked list f ss e).0 in
+      let again = zip_all (λ s t h. moved_clean k s t h) tidy held in
+      sites_read list (map (moved k) ss) (map_each (moved k) ss sized) (omega (arith, some, length-map ss (moved k))) (omega (arith, most, length-map ss (moved k)))
+      ∙ ap Ok (map_same clean (map (moved k) ss) (map_each (moved k) ss again))
+
+  same_terms : map (terms_of list) (map (moved k) ss) ≡ map (terms_of list) ss
+  same_terms = all_moved_by (terms_of list) k ss (map-all (λ s h. moved_terms k s h list) held)
+
+  same_judged : map (judged_of list) (map (moved k) ss) ≡ map (judged_of list) ss
+  same_judged = all_moved_by (judged_of list) k ss (map-all (λ s h. moved_judged k s h list) held)
+
+  same_listed : report_of list (file_of (map (moved k) ss)) ≡ report_of list f
+  unfolding report_of printed
+  same_listed = rw (converted_passes, e, all_moved_by (row_of list) k ss (map-all (λ s h. moved_row k s h list) held)) refl
+
+  back_all : (j : RecordKind) → All (λ s. s.kind ≡ j) ss → All (Converts j) (map (moved k) ss)
+  back_all j kinds = map_each (moved k) ss (zip_all (λ s is x. subst (λ i. Converts i (moved k s)) is x) kinds (zip_all (λ s p h. back_converts list s p k h) passed held))
+
+  back_sites : (j : RecordKind) → All (λ s. s.kind ≡ j) ss → map (moved j) (map (moved k) ss) ≡ ss
+  back_sites j kinds =
+      map-map (moved j) (moved k) ss ∙ map_same (λ s. moved j (moved k s)) ss (zip_all (λ s is x. subst (λ i. moved i (moved k s) ≡ s) is x) kinds (zip_all (λ s t h. moved_back k s t h) tidy held))
+
+  goes_back : (j : RecordKind) → OfKind j ss → (converted j (contents list (file_of (map (moved k) ss))) ≡ Ok ss) × (file_of ss ≡ f)
+  unfolding converted
+  goes_back j kinds =
+      let each = of_kind j ss kinds in
+      (rw converted_passes (all_converts j (map (moved k) ss) (back_all j each) 0 ∙ ap Ok (back_sites j each)), sym (sites_written list f b ss e))
+
+  is_itself : OfKind k ss → file_of (map (moved k) ss) ≡ f
+  is_itself kinds =
+      let each = zip_all (λ s is x. subst (λ i. moved i s ≡ s) is x) (of_kind k ss kinds) (map-all (λ s t. moved_itself k s t) tidy) in
+      ap file_of (map_same (moved k) ss each) ∙ sym (sites_written list f b ss e)
+
+  pub same_records : SameRecords list k f (file_of (map (moved k) ss))
+  same_records = record {
+    sites = ss;
+    holds = e;
+    passes = converted_passes;
+    terms = same_terms;
+    judged = same_judged;
+    listed = same_listed;
+    back = goes_back;
+    itself = is_itself;
+  }
