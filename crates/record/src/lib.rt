@@ -10,7 +10,7 @@ mod writer;
 
 pub use outer::{read_at, read_record};
 use site::Site;
-pub use writer::write_record;
+pub use writer::{put_record, record_len, write_record};
 
 // A record of a file, and where the next one starts.
 #[derive(Clone, Copy)]
