@@ -15,7 +15,7 @@ use Rattle.output.specs.Output.{Written, held, written_numbers}
 use Rattle.text.specs.TextAnswer.{text_answer, RoomEnough}
 use Rattle.output.proofs.OutputLaws.{count_is, refused_at_0}
 use Rattle.text.proofs.TextAnswers.{AnsweredWithin, Answered, Clauses, clauses_then, by_clauses, answered, written}
-use Rattle.record.specs.File.{Contents, contents}
+use Rattle.record.specs.File.{Contents, made_of, contents}
 use Rattle.site.specs.Ranges.{most_records}
 use Rattle.record.specs.Records.{most_record}
 use Rattle.record.proofs.SiteFile.{sites_fault_near, sites_checked}
@@ -34,12 +34,12 @@ pub record Filled (list : List ℕ) (rows : List Row) (c : Contents Site) : Type
   pub lines : rows ≡ map (row_of list) ss
 
 pub found_sites : (list : List ℕ) (c : Contents Site) {rows : List Row} → walked_of list c ≡ Ok rows → Filled list rows c
-unfolding walked_of
+unfolding made_of
 found_sites list (Ok ss) {rows} e = let same : map (row_of list) ss ≡ rows = cc in record { ss = ss; holds = refl; lines = sym same }
 found_sites list (Err r) e = cc
 
 pub found_fault : (list : List ℕ) (c : Contents Site) {r : Refusal} → walked_of list c ≡ Err r → c ≡ Err r
-unfolding walked_of
+unfolding made_of
 found_fault list (Ok ss) e = cc
 found_fault list (Err k) e = cc
 

@@ -1,17 +1,14 @@
 -- Laws of a record's bytes: its fields one after another, for every kind, and the length of a site's record.
 use mathlib.Core.Path.{◌≡◌, refl, ap, ◌∙◌}
 use mathlib.Core.List.{List, ◌∷◌, [], ◌++◌}
-use Prim.Native.Nat.{ℕ, ◌+◌, ◌*◌, ◌/◌, ◌%◌, ◌≤◌}
+use Prim.Native.Nat.{ℕ, ◌+◌, ◌-◌, ◌*◌, ◌/◌, ◌%◌, ◌≤◌}
 use native.Mathlib.Omega.{arith}
-use lib.ListN.{length, take, length-append}
+use lib.ListN.{length, take, length-append, length-take}
 use Rattle.site.specs.declared.Site.{Site}
-use Rattle.std.specs.Prelude.{Ok, flat_map}
-use Rattle.site.specs.Check.{site_rule}
+use Rattle.std.specs.Prelude.{flat_map}
 use Rattle.site.specs.declared.RecordKind.{RecordKind}
 use Rattle.site.specs.declared.RecordKind.TheVariants.{Tag52, Tag53, Tag54}
 use Rattle.site.specs.Kinds.{kind_tag, due, entry_width}
-use Rattle.site.proofs.FieldLaws.{site_passed}
-use Rattle.site.proofs.LengthLaws.{longest}
 use Rattle.record.specs.FieldParts.{field_of}
 use Rattle.field.specs.Field.{entries_bytes, value, site_kind}
 use Rattle.field.specs.Kind.{Kind}
@@ -19,10 +16,9 @@ use Rattle.record.specs.Fields.{encode_fields, encode_as}
 use Rattle.field.specs.Clean.{Sized}
 use Rattle.record.specs.Writer.{encode, added_length}
 use Rattle.output.specs.Writing.{Wrote, WroteIf}
-use Rattle.output.proofs.WritingLaws.{then, kept}
+use Rattle.output.proofs.WritingLaws.{then, kept, wrote_some}
 use Rattle.site.proofs.Tags.{tags_from, tags_more, due_tags}
-use Rattle.field.proofs.EntryLaws.{entries_span}
-use Rattle.field.proofs.FieldValueLaws.{name_counts, name_long, stand_counts, bytes_long}
+use Rattle.field.proofs.EntryLaws.{length_entries}
 
 -- head, then value: the field
 pub field_wrote : {l b c : List ℕ} {at n q r : ℕ} (t : ℕ) (v : List ℕ) → n ≡ length v
@@ -101,15 +97,32 @@ added_few Tag52 = omega arith
 added_few Tag53 = omega arith
 added_few Tag54 = omega arith
 
-module _ (list : List ℕ) (s : Site) (z : Sized s) (e : site_rule list s ≡ Ok tt) where
-  pub record_length : length (encode s) ≡ 3 + (69 + s.name.len + entry_width s.kind * s.stand.count + added_length s.kind)
-  record_length =
-      let n = name_long s z (site_passed list s e 1 (omega arith) (omega arith)).0 in
-      let b = bytes_long s z (site_passed list s e 7 (omega arith) (omega arith)).0 s.kind in
-      omega (arith, encode_length (site_kind [] s.kind) s, fields_length s.kind s)
+-- and all of the record, whether the site passes or not
+pub record_length : (s : Site) → length (encode s)
+    ≡ 3 + (69 + length (take s.name.len s.name.bytes) + entry_width s.kind * length (take s.stand.count s.stand.entries) + added_length s.kind)
+record_length s = omega (arith, encode_length (site_kind [] s.kind) s, fields_length s.kind s, length_entries s.kind (take s.stand.count s.stand.entries))
 
-  pub fields_small : length (encode_fields (site_kind [] s.kind) (due s.kind) s) ≤ 255
-  fields_small =
-      let n = name_counts s z (site_passed list s e 1 (omega arith) (omega arith)).0 in
-      let b = stand_counts s z (site_passed list s e 7 (omega arith) (omega arith)).0 in
-      omega (arith, encode_length (site_kind [] s.kind) s, record_length, added_few s.kind, (entries_span s.kind s.stand.count b.0 b.1).1, longest s.kind 7)
+-- the arrays of a site have the lengths of their types
+pub sized : (s : Site) → length s.name.bytes ≡ 8 → length s.stand.entries ≡ 4 → Sized s
+sized s n e = record { name = n; stand = e }
+
+-- a product of which one part is 5 at most, the other 4
+few_bytes : (k : RecordKind) (n : ℕ) → n ≤ 4 → entry_width k * n ≤ 20
+few_bytes Tag52 n h = omega arith
+few_bytes Tag53 n h = omega arith
+few_bytes Tag54 n h = omega arith
+
+pub record_few : (s : Site) → Sized s → length (encode s) ≤ 258
+record_few s z =
+    let n : length (take s.name.len s.name.bytes) ≤ 8 = simp length-take (omega (arith, z.name)) in
+    let e : length (take s.stand.count s.stand.entries) ≤ 4 = simp length-take (omega (arith, z.stand)) in
+    omega (arith, record_length s, added_few s.kind, few_bytes s.kind (length (take s.stand.count s.stand.entries)) e)
+
+pub fields_small : (s : Site) → Sized s → length (encode_fields (site_kind [] s.kind) (due s.kind) s) ≤ 255
+fields_small s z = omega (arith, encode_length (site_kind [] s.kind) s, record_few s z)
+
+-- head and fields where there is room, by the length of the record
+pub record_put : {l b c : List ℕ} {at n q r : ℕ} (s : Site) → n ≡ length (encode s) → at + n ≤ length l
+    → Wrote l at (kind_tag s.kind ∷ ((n - 3) / 256) ∷ ((n - 3) % 256) ∷ []) b q → Wrote b q (encode_fields (site_kind [] s.kind) (due s.kind) s) c r
+    → WroteIf l at (encode s) c r
+record_put s e fits v w = wrote_some (omega arith) (record_wrote s (omega (arith, encode_length (site_kind [] s.kind) s)) v w)

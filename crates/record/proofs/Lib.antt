@@ -12,6 +12,7 @@ pub mod SiteTrips
 pub mod Place
 pub mod PairLaws
 pub mod SiteFile
+pub mod UnreadLaws
 pub mod RoundTrip
 pub mod RecordWritten
 pub mod ExampleRecord

@@ -103,7 +103,7 @@ pub site_read : (list : List ℕ) (s : Site) → Sized s → site_rule list s �
     → record_in site_tag (site_kinds list) (encode s ++ rest) at ≡ Ok (clean s, at + length (encode s))
 site_read list s z e rest at =
     let k = kind_again list s.kind in
-    let small = rw (← fields_same list s.kind (due s.kind) s) at (fields_small list s z e) in
+    let small = rw (← fields_same list s.kind (due s.kind) s) at (fields_small s z) in
     rw encode_same at (record_read site_tag (site_kinds list) (site_kind list s.kind) s (clean s) rest at k.0 k.1 small (read_encode list s z e (at + 3)))
 
 -- ---- by what the call gives

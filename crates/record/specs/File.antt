@@ -1,5 +1,5 @@
 -- A file of records, walked from the left; the first fault decides. For every kind of record.
-use Rattle.std.specs.Prelude.{ℕ, zero, suc, ◌+◌, ◌*◌, List, [], ◌∷◌, leb, length, Result, Ok, Err}
+use Rattle.std.specs.Prelude.{ℕ, zero, suc, ◌+◌, ◌*◌, List, [], ◌∷◌, leb, length, map, Result, Ok, Err}
 use Rattle.site.specs.Ranges.{most_records}
 use Rattle.site.specs.Choice.{pick}
 use Rattle.site.specs.declared.Site.{Site}
@@ -37,6 +37,11 @@ contents_by most read len = pick (leb len 0) (Err (record { rule = NoBytes; at =
 unfoldable pub alone : {A : Type 0} → Result A Refusal → Contents A
 alone (Ok x) = Ok (x ∷ [])
 alone (Err r) = Err r
+
+-- what is made of the values that a file holds, an element of each; a refusal stays
+unfoldable pub made_of : {A B : Type 0} → (A → B) → Contents A → Contents B
+made_of make (Ok xs) = Ok (map make xs)
+made_of make (Err r) = Err r
 
 -- the bytes of a file that are looked at: 500 records of the greatest length, and one byte more; 129001
 abbrev pub most_file : ℕ

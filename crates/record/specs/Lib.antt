@@ -4,5 +4,6 @@ pub mod Fields
 pub mod Records
 pub mod Outer
 pub mod File
+pub mod Unread
 pub mod FirstFault
 pub mod Writer

@@ -1,6 +1,7 @@
-// A site's record written into a lent buffer.
+// A site's record: its length, and the record put or written into a lent buffer.
 ghost use Rattle.std.specs.Prelude.{◌≡◌, length, take, Ok, IfOk};
 ghost use Rattle.output.specs.Output.{write_answer, written_numbers, held_after, output_numbers};
+ghost use Rattle.output.specs.Writing.{WroteIf};
 ghost use Rattle.record.specs.Outer.{read_record};
 ghost use Rattle.field.specs.Clean.{clean};
 ghost use Rattle.record.specs.Writer.{encode, write_rule, added_length};
@@ -20,6 +21,33 @@ fn added_length(kind: RecordKind) -> usize
     }
 }
 
+// How many bytes the record of the site has, also of one that passes no check.
+pub fn record_len(site: Site) -> usize
+    ensures { result ≡ length (encode site) }
+{
+    // 15 heads, 24 bytes of values of one length, the name and the entries, then the fields after 0F
+    let body = 15 * 3
+        + 24
+        + site.name.as_slice().len()
+        + site.kind.entry_width() * site.stand.as_slice().len()
+        + added_length(site.kind);
+    3 + body
+}
+
+// The record of the site at index `at`, and the index after it; where it does not fit, nothing is written.
+pub fn put_record(out: &mut [u8], at: usize, site: Site) -> usize
+    ensures { WroteIf out.old at (encode site) out.new result }
+{
+    let len = record_len(site);
+    match at.checked_add(len) {
+        Some(end) if end <= out.len() => {
+            let start = put_head(out, at, site.kind.tag(), len - 3);
+            put_fields(out, start, site)
+        }
+        _ => at,
+    }
+}
+
 // The record of the site at the front of the buffer; a refusal leaves the buffer as it is.
 pub fn write_record(site: Site, list: SpeciesList<'_>, buf: &mut [u8]) -> Result<usize, Refusal>
     ensures answer { result ≡ write_answer (write_rule list.entry.bytes.now site (length buf.old)) (length (encode site)) }
@@ -28,15 +56,8 @@ pub fn write_record(site: Site, list: SpeciesList<'_>, buf: &mut [u8]) -> Result
     ensures read_again { IfOk result (λ n. read_record list.entry.bytes.now (take n buf.new) ≡ Ok (clean site)) }
 {
     check_site(site, list)?;
-    // 15 heads, 24 bytes of values of one length, the name and the entries, then the fields after 0F
-    let body = 15 * 3
-        + 24
-        + usize::from(site.name.len)
-        + site.kind.entry_width() * usize::from(site.stand.count)
-        + added_length(site.kind);
-    if buf.len() < 3 + body {
+    if buf.len() < record_len(site) {
         return Err(Rule::BufferShort.into());
     }
-    let start = put_head(buf, 0, site.kind.tag(), body);
-    Ok(put_fields(buf, start, site))
+    Ok(put_record(buf, 0, site))
 }

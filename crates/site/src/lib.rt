@@ -26,7 +26,7 @@ pub use species_list::SpeciesList;
 pub use value::value_rule;
 
 // An entry of the stand: species, share in percent, yield of a pure stand in kg dry matter per hectare and year.
-#[derive(Clone, Copy)]
+#[derive(Clone, Copy, Default)]
 pub struct Entry {
     pub species: u16,
     pub share: u8,
@@ -42,23 +42,25 @@ pub struct Name {
 }
 
 // The first `count` of the entries: the others are no part of the stand. No vector, as with the name.
-#[derive(Clone, Copy)]
+#[derive(Clone, Copy, Default)]
 pub struct Stand {
     pub entries: [Entry; 4],
     pub count: u8,
 }
 
 // The kinds of record, each by its outer tag. A site holds no other.
-#[derive(Clone, Copy, Debug, PartialEq, Eq)]
+#[derive(Clone, Copy, Debug, Default, PartialEq, Eq)]
 pub enum RecordKind {
+    #[default]
     Tag52 = 0x52,
     Tag53 = 0x53,
     Tag54 = 0x54,
 }
 
 // The values of document 01, "The site's values", and of document 02, raw: every bad site can be held, and is refused by the check.
-// What its kind lacks is no part of a site: kind 52 has no temperature. Temperature byte 0 is −5 °C.
-#[derive(Clone, Copy)]
+// What its kind lacks is no part of a site: kind 52 has no temperature. Temperature byte 0 is −5 °C. `Default`, here and of the fields' types, is what
+// `ArrayVec::new` fills its places with.
+#[derive(Clone, Copy, Default)]
 pub struct Site {
     pub kind: RecordKind,
     pub name: Name,

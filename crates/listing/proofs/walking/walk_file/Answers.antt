@@ -1,45 +1,37 @@
-use Rattle.std.proofs.Common.{refl, sym, ◌∙◌, arith, rules}
+use Rattle.std.proofs.Common.{sym, ap, ◌∙◌, Ok}
 use Rattle.std.proofs.lemmas.Result.{err_from_is_err_and}
 use Rattle.record.specs.Result.{result_numbers}
-use Rattle.record.proofs.SiteFile.{sites_none}
-use Rattle.listing.specs.Rows.{walked_of}
-use Rattle.listing.proofs.LoopLaws.{so_start, so_end, so_full, so_bad, so_good, so_on, with_numbers, with_fault}
+use Rattle.record.specs.File.{made_of}
+use Rattle.record.proofs.UnreadLaws.{so_start, so_more, so_end, so_fault, made_numbers}
+use Rattle.listing.specs.Rows.{row_of}
 use Rattle.listing.proofs.walking.walk_file.Goals as goal
 
-pub returns-then-is_empty : goal.returns-then-is_empty
-unfolding walked_of result_numbers
-returns-then-is_empty c =
-    let h = with_fault c.args.list.bytes.now (sites_none c.args.list.bytes.now c.args.file.now (search rules)) refl in
-    rw c.into.ensures (record { answer = sym h.0; numbers = h.1 })
-
-pub loop-at-init : goal.loop-at-init
-loop-at-init c = rw c.new-rows.ensures (so_start c.args.list.bytes.now c.args.file.now (search rules))
-
-pub returns-then-is_full : goal.returns-then-is_full
-unfolding walked_of result_numbers
-returns-then-is_full c =
-    let h = with_fault c.args.list.bytes.now (so_full c.loop-at.invariant c.loop-at-test.true (search rules)) refl in
-    record { answer = sym h.0; numbers = h.1 }
-
-pub returns-in_err-row : goal.returns-in_err-row
-unfolding walked_of result_numbers
-returns-in_err-row c =
+pub returns-in_err-records : goal.returns-in_err-records
+unfolding result_numbers made_of
+returns-in_err-records c =
     let p = err_from_is_err_and c.from_residual.result c.from_residual.ensures.1 in
-    let h = with_fault c.args.list.bytes.now (so_bad c.loop-at.invariant c.loop-at-test.true (search rules) (sym c.row_at.ensures ∙ c.in_err-row.was)) refl in
-    rw (p.1, p.2) (record { answer = sym h.0; numbers = h.1 })
+    let e = c.in_err-records.ensures.answer in
+    rw (p.1, p.2) (record { answer = rw e; numbers = rw e })
 
-pub loop-at-smaller : goal.loop-at-smaller
-loop-at-smaller c =
-    let step = sym c.row_at.ensures ∙ c.in_ok-row.was in
-    let so = so_good c.loop-at.invariant c.loop-at-test.true (search rules) step in
-    omega (arith, so.inside, so_on c.loop-at.invariant c.loop-at-test.true (search rules) step)
+pub loop-site-init : goal.loop-site-init
+loop-site-init c = rw c.new-rows.ensures (record { same = c.in_ok-records.ensures.file.1; so = so_start (row_of c.args.list.bytes.now) c.in_ok-records.ensures.answer c.in_ok-records.ensures.left })
 
-pub loop-at-preserved : goal.loop-at-preserved
-loop-at-preserved c =
-    rw c.push.ensures.items (so_good c.loop-at.invariant c.loop-at-test.true (search rules) (sym c.row_at.ensures ∙ c.in_ok-row.was))
+pub returns-in_err-site : goal.returns-in_err-site
+unfolding result_numbers made_of
+returns-in_err-site c =
+    let p = err_from_is_err_and c.from_residual-in_err-site.result c.from_residual-in_err-site.ensures.1 in
+    let e = so_fault (row_of c.args.list.bytes.now) c.loop-site.invariant.so c.next.result _ c.next.ensures.answer c.in_err-site.was in
+    rw (p.1, p.2) (record { answer = rw e; numbers = rw e })
+
+pub loop-site-preserved : goal.loop-site-preserved
+loop-site-preserved c =
+    rw (c.push.ensures.items, c.row_of.ensures) (record {
+      same = c.next.ensures.file.1 ∙ c.loop-site.invariant.same;
+      so = so_more (row_of c.args.list.bytes.now) c.loop-site.invariant.so c.next.result _ c.next.ensures.answer (c.in_ok-site.was ∙ ap Ok c.in-Some.is) _ c.next.ensures.left;
+    })
 
 pub returns : goal.returns
 unfolding result_numbers
 returns c =
-    let h = with_numbers c.args.list.bytes.now _ (sym (so_end c.loop-at.invariant (omega (arith, c.loop-at-test.false)))) in
-    record { answer = sym h.0; numbers = h.1 }
+    let e = so_end (row_of c.args.list.bytes.now) c.loop-site.invariant.so c.next.result _ c.next.ensures.answer (c.in_ok-site.was ∙ ap Ok c.in_default.is) in
+    record { answer = e; numbers = sym (ap result_numbers e) ∙ made_numbers (row_of c.args.list.bytes.now) _ }

@@ -1,10 +1,16 @@
--- The rows so far, and the walk over the rest, give what the file holds.
-use Rattle.std.proofs.Common.{◌-◌, length}
-use Rattle.listing.proofs.LoopLaws.{SoFar}
+-- The rows so far, and those of the sites still to come, give what the file holds.
+use Rattle.std.proofs.Common.{◌≡◌}
+use Rattle.record.specs.File.{contents}
+use Rattle.record.specs.Unread.{lent, unread, may_come}
+use Rattle.record.proofs.UnreadLaws.{SoFar}
+use Rattle.listing.specs.Rows.{row_of}
 use Rattle.listing.proofs.walking.walk_file.Given as goal
 
-abbrev pub invariant-loop-at : goal.invariant-loop-at
-invariant-loop-at l = SoFar l.list.bytes.now l.file l.rows.items l.at
+abbrev pub invariant-loop-site : goal.invariant-loop-site
+invariant-loop-site l = record {
+  same : lent l.records ≡ l.list.bytes.now;
+  so : SoFar (row_of l.list.bytes.now) (contents l.list.bytes.now l.file) l.rows.items (unread l.records) (may_come l.records);
+}
 
-abbrev pub decreases-loop-at : goal.decreases-loop-at
-decreases-loop-at l = length l.file - l.at
+abbrev pub decreases-loop-site : goal.decreases-loop-site
+decreases-loop-site l = may_come l.records

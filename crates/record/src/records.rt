@@ -1,0 +1,74 @@
+// The walk over a file: a record at a time, or all of them.
+ghost use Rattle.std.specs.Prelude.{◌≡◌, ◌+◌, IfOk, IfSome, Ok, Err, MatchResult};
+ghost use Rattle.site.specs.Check.{site_rule};
+ghost use Rattle.record.specs.File.{contents};
+ghost use Rattle.record.specs.Result.{result_numbers};
+ghost use Rattle.record.specs.Unread.{walked, lent, unread, may_come, came, given};
+
+use crate::Found;
+use crate::outer::read_at;
+use arrayvec::ArrayVec;
+use site::{Refusal, Rule, Site, SpeciesList};
+
+// The records of a file that are still to be read: where the next one starts, and how many may come.
+#[derive(Drop)]
+pub struct Records<'a> {
+    file: &'a [u8],
+    list: SpeciesList<'a>,
+    at: usize,
+    left: usize,
+}
+
+impl<'a> Records<'a> {
+    // All the records of a file that has any byte.
+    #[tactic(auto, using(crate::proofs::SiteFile::sites_none, crate::proofs::SiteFile::sites_some))]
+    pub fn of(file: &'a [u8], list: SpeciesList<'a>) -> Result<Records<'a>, Refusal>
+        ensures answer { MatchResult result (λ records. contents list.entry.bytes.now file.now ≡ unread records) (λ refusal. contents list.entry.bytes.now file.now ≡ Err refusal) }
+        ensures file { IfOk result (λ records. (walked records ≡ file.now) × (lent records ≡ list.entry.bytes.now)) }
+        ensures left { IfOk result (λ records. may_come records ≡ 500) }
+    {
+        if file.is_empty() {
+            return Err(Rule::NoBytes.into());
+        }
+        Ok(Records {
+            file,
+            list,
+            at: 0,
+            left: 500,
+        })
+    }
+
+    // The next record, or none at the end of the file.
+    #[tactic(auto, using(crate::proofs::UnreadLaws::unread_end, crate::proofs::UnreadLaws::unread_full), unfolding(crate::specs::Unread::came))]
+    pub fn next(&mut self) -> Result<Option<Site>, Refusal>
+        ensures answer { unread self.old ≡ came result (unread self.new) }
+        ensures left { may_come self.old ≡ may_come self.new + given result }
+        ensures file { (walked self.new ≡ walked self.old) × (lent self.new ≡ lent self.old) }
+        ensures passes { IfOk result (λ next. IfSome next (λ site. site_rule (lent self.old) site ≡ Ok tt)) }
+    {
+        if self.file.len() <= self.at {
+            return Ok(None);
+        }
+        if self.left == 0 {
+            let rule = Rule::TooMany;
+            return Err(Refusal { rule, at: self.at });
+        }
+        let Found { site, next } = read_at(self.file, self.at, self.list)?;
+        self.at = next;
+        self.left -= 1;
+        Ok(Some(site))
+    }
+}
+
+// The sites of a file, or its first fault.
+pub fn read_sites(file: &[u8], list: SpeciesList<'_>) -> Result<ArrayVec<Site, 500>, Refusal>
+    ensures answer { let c = contents list.entry.bytes.now file.now in MatchResult result (λ sites. c ≡ Ok sites.items) (λ refusal. c ≡ Err refusal) }
+    ensures numbers { result_numbers result ≡ result_numbers (contents list.entry.bytes.now file.now) }
+{
+    let mut records = Records::of(file, list)?;
+    let mut sites = ArrayVec::new();
+    while let Some(site) = records.next()? {
+        sites.push(site);
+    }
+    Ok(sites)
+}
