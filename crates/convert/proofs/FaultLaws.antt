@@ -3,6 +3,7 @@ use mathlib.Core.Path.{◌≡◌, refl, ap, ◌∙◌}
 use mathlib.Core.Bool.{Bool, true, false, ◌||◌, or-true}
 use mathlib.Core.Logic.{◌⊎◌, inl, inr}
 use mathlib.Core.List.{List, ◌∷◌, ◌++◌}
+use native.Mathlib.Omega.{arith}
 use Prim.Native.Nat.{ℕ, ◌+◌, ◌-◌}
 use lib.Dec.{eqb}
 use lib.ListN.{length, get_or, take, drop}
@@ -24,7 +25,7 @@ use Rattle.record.proofs.SiteFile.{sites_written}
 use Rattle.convert.specs.Moved.{held_by, species_held, temperature_held, field_start}
 use Rattle.convert.specs.Converted.{all_moved, file_of, NotHeld, stand, temperature, FirstNotHeld}
 use Rattle.convert.proofs.ConvertedLaws.{first_not_held}
-use Rattle.convert.proofs.FieldStarts.{starts}
+use Rattle.convert.proofs.FieldStarts.{starts, temperature_start}
 
 not_held : (b : Bool) {r : Rule} → held_by b ≡ Err r → r ≡ NotConvertible
 not_held true e = cc
@@ -74,3 +75,7 @@ module _ (list f : List ℕ) (b : AllBytes f) (k : RecordKind) (ss : List Site) 
       by_field : NotHeld k (length (file_of first.before)) first.site r → (r.rule ≡ NotConvertible) × ((get_or f r.at 0 ≡ 7) ⊎ (get_or f r.at 0 ≡ 16))
       by_field (stand broken at) = (not_held _ broken, inl (there 7 (stand_due first.site.kind) at))
       by_field (temperature held broken at) = (not_held _ broken, inr (there 16 (temperature_due first.site.kind (has_field_10 k first.site broken)) at))
+
+-- where rule 17 is broken at field 10, it starts 4 bytes before the record's end
+pub temperature_at : (k : RecordKind) (s : Site) {r : Rule} → temperature_held k s ≡ Err r → length (encode s) - 4 ≡ field_start 16 s
+temperature_at k s e = omega (arith, temperature_start s (has_field_10 k s e))

@@ -1,2 +1,7 @@
 // The records of a file moved to one kind.
 #![tactic(auto)]
+
+mod converting;
+mod moving;
+
+pub use converting::convert;

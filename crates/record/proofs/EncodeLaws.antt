@@ -14,7 +14,7 @@ use Rattle.field.specs.Field.{entries_bytes, value, site_kind}
 use Rattle.field.specs.Kind.{Kind}
 use Rattle.record.specs.Fields.{encode_fields, encode_as}
 use Rattle.field.specs.Clean.{Sized}
-use Rattle.record.specs.Writer.{encode, added_length}
+use Rattle.record.specs.Writer.{encode, most_site_record, added_length}
 use Rattle.output.specs.Writing.{Wrote, WroteIf}
 use Rattle.output.proofs.WritingLaws.{then, kept, wrote_some}
 use Rattle.site.proofs.Tags.{tags_from, tags_more, due_tags}
@@ -112,7 +112,7 @@ few_bytes Tag52 n h = omega arith
 few_bytes Tag53 n h = omega arith
 few_bytes Tag54 n h = omega arith
 
-pub record_few : (s : Site) → Sized s → length (encode s) ≤ 258
+pub record_few : (s : Site) → Sized s → length (encode s) ≤ most_site_record
 record_few s z =
     let n : length (take s.name.len s.name.bytes) ≤ 8 = simp length-take (omega (arith, z.name)) in
     let e : length (take s.stand.count s.stand.entries) ≤ 4 = simp length-take (omega (arith, z.stand)) in

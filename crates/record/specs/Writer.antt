@@ -19,6 +19,10 @@ added_length Tag52 = 0
 added_length Tag53 = 4
 added_length Tag54 = 4
 
+-- the greatest length of a record: that of kind 54 with a name of 8 bytes and 4 entries
+abbrev pub most_site_record : ℕ
+most_site_record = 104
+
 -- all that a write can break, 11 last
 abbrev pub write_rule : List ℕ → Site → ℕ → Checked
 write_rule list s room = output_rule (site_rule list s) (length (encode s)) room

@@ -1,10 +1,10 @@
 // A site's record: its length, and the record put or written into a lent buffer.
-ghost use Rattle.std.specs.Prelude.{◌≡◌, length, take, Ok, IfOk};
+ghost use Rattle.std.specs.Prelude.{◌≡◌, ◌≤◌, length, take, Ok, IfOk};
 ghost use Rattle.output.specs.Output.{write_answer, written_numbers, held_after, output_numbers};
 ghost use Rattle.output.specs.Writing.{WroteIf};
 ghost use Rattle.record.specs.Outer.{read_record};
 ghost use Rattle.field.specs.Clean.{clean};
-ghost use Rattle.record.specs.Writer.{encode, write_rule, added_length};
+ghost use Rattle.record.specs.Writer.{encode, most_site_record, write_rule, added_length};
 
 use crate::put::{put_fields, put_head};
 use site::{RecordKind, Refusal, Rule, Site, SpeciesList, check_site};
@@ -23,7 +23,8 @@ fn added_length(kind: RecordKind) -> usize
 
 // How many bytes the record of the site has, also of one that passes no check.
 pub fn record_len(site: Site) -> usize
-    ensures { result ≡ length (encode site) }
+    ensures answer { result ≡ length (encode site) }
+    ensures bounds { (72 ≤ result) × (result ≤ most_site_record) }
 {
     // 15 heads, 24 bytes of values of one length, the name and the entries, then the fields after 0F
     let body = 15 * 3
