@@ -1,24 +1,27 @@
 -- Where all sites convert each is moved, and else 17 names the first field that does not.
 use mathlib.Core.Path.{◌≡◌, refl, sym, ap, ◌∙◌}
 use mathlib.Core.List.{List, [], ◌∷◌, ◌++◌, map}
-use Prim.Native.Nat.{ℕ, zero, suc, ◌+◌, ◌<◌}
+use Prim.Native.Nat.{ℕ, zero, suc, ◌+◌, ◌*◌, ◌≤◌, ◌<◌}
 use native.Mathlib.Omega.{arith}
-use lib.ListN.{length, length-append, get_or}
-use Rattle.std.specs.Prelude.{Ok, Err, flat_map}
+use lib.ListN.{length, length-append, length-take, get_or, take, drop}
+use lib.Seq.{drop-cons}
+use Rattle.std.specs.Prelude.{Result, Ok, Err, flat_map}
+use Rattle.std.proofs.lemmas.List.{take_more, take-append-drop}
 use Rattle.site.specs.Refusal.{Checked, unless}
 use Rattle.site.specs.declared.RecordKind.{RecordKind}
 use Rattle.site.specs.declared.Refusal.{Refusal}
 use Rattle.site.specs.declared.Site.{Site}
 use Rattle.field.specs.Field.{blank_site}
-use Rattle.field.proofs.All.{All, none, ◌▸◌, all_at}
+use Rattle.field.proofs.All.{All, none, ◌▸◌, all_append, all_at}
+use Rattle.output.proofs.EachLaws.{length_more}
 use Rattle.record.specs.File.{Contents, first}
-use Rattle.record.specs.Writer.{encode}
+use Rattle.record.specs.Writer.{encode, most_site_record}
 use Rattle.convert.specs.Moved.{moved, species_held, temperature_held, Converts, field_start}
-use Rattle.convert.specs.Converted.{all_moved, file_of, NotHeld, stand, temperature, FirstNotHeld}
+use Rattle.convert.specs.Converted.{held_at, all_moved, moved_record, file_of, AllConvert, NotHeld, stand, temperature, FirstNotHeld}
 
 module _ (k : RecordKind) where
   pub all_converts : (ss : List Site) → All (Converts k) ss → (at : ℕ) → all_moved k at ss ≡ Ok (map (moved k) ss)
-  unfolding all_moved unless first
+  unfolding all_moved held_at unless first
   all_converts [] none at = refl
   all_converts (s ∷ ss) (c ▸ cs) at = rw (c.species, c.temperature, all_converts ss cs (at + length (encode s)))
 
@@ -28,7 +31,7 @@ module _ (k : RecordKind) where
     pub each : ts ≡ map (moved k) ss
 
   pub all_moved_ok : (ss : List Site) (at : ℕ) {ts : List Site} → all_moved k at ss ≡ Ok ts → AllMoved ss ts
-  unfolding all_moved unless first
+  unfolding all_moved held_at unless first
   all_moved_ok [] at {ts} e = record { converts = none; each = cc }
   all_moved_ok (s ∷ ss) at {ts} e =
       by_rules (species_held k s) (temperature_held k s) (all_moved k (at + length (encode s)) ss) refl refl (λ us m. all_moved_ok ss (at + length (encode s)) m) e
@@ -53,7 +56,7 @@ module _ (k : RecordKind) where
     here : NotHeld k (at + length (file_of before)) site r
 
   first_from : (ss : List Site) (at : ℕ) {r : Refusal} → all_moved k at ss ≡ Err r → FirstFrom at ss r
-  unfolding all_moved unless first
+  unfolding all_moved held_at unless first
   first_from [] at e = cc
   first_from (s ∷ ss) at {r} e =
       by_rules (species_held k s) (temperature_held k s) (all_moved k (at + length (encode s)) ss) refl refl (λ x m. first_from ss (at + length (encode s)) m) e
@@ -97,3 +100,68 @@ module _ (k : RecordKind) where
         converts = λ i h. all_at x.converts i blank_site h;
         here = rw start at x.here;
       }
+
+-- ---- the loop over the sites of a file
+
+-- what it knows of the sites so far: they convert, their records end at the offset `at`, and moved they have `len` bytes; each record has at most 104
+pub record MovedSoFar (k : RecordKind) (ss : List Site) (at len : ℕ) : Type 0 where
+  pub converts : All (Converts k) ss
+  pub start : at ≡ length (file_of ss)
+  pub bytes : len ≡ length (flat_map (moved_record k) ss)
+  pub few : (at ≤ most_site_record * length ss) × (len ≤ most_site_record * length ss)
+
+module _ (k : RecordKind) where
+  pub moved_start : MovedSoFar k [] 0 0
+  moved_start = record { converts = none; start = refl; bytes = refl; few = (omega arith, omega arith) }
+
+  held_ok : (s : Site) (at : ℕ) → held_at {A = Unit {0}} k s at (Ok tt) ≡ Ok tt → Converts k s
+  unfolding held_at unless
+  held_ok s at e = by_rules (species_held k s) (temperature_held k s) refl refl e
+    where
+      by_rules : (a b : Checked) → species_held k s ≡ a → temperature_held k s ≡ b
+          → unless {A = Unit {0}} a (at + field_start 7 s) (unless b (at + field_start 16 s) (Ok tt)) ≡ Ok tt → Converts k s
+      by_rules (Ok u) (Ok v) p q e = record { species = p; temperature = q }
+      by_rules (Ok u) (Err x) p q e = cc
+      by_rules (Err x) b p q e = cc
+
+  held_err : {A : Type 0} (x : Result A Refusal) (s : Site) (at : ℕ) {r : Refusal} → held_at {A = Unit {0}} k s at (Ok tt) ≡ Err r → held_at k s at x ≡ Err r
+  unfolding held_at unless
+  held_err {A} x s at {r} e = by_rules (species_held k s) (temperature_held k s) e
+    where
+      by_rules : (a b : Checked) → unless {A = Unit {0}} a (at + field_start 7 s) (unless b (at + field_start 16 s) (Ok tt)) ≡ Err r
+          → unless a (at + field_start 7 s) (unless b (at + field_start 16 s) x) ≡ Err r
+      by_rules (Ok u) (Ok v) e = cc
+      by_rules (Ok u) (Err y) e = cc
+      by_rules (Err y) b e = cc
+
+  past : (xs ys : List Site) → All (Converts k) xs → (at : ℕ) {r : Refusal} → all_moved k (at + length (file_of xs)) ys ≡ Err r → all_moved k at (xs ++ ys) ≡ Err r
+  unfolding all_moved held_at unless first
+  past [] ys none at e = let same : at + length (file_of []) ≡ at = omega arith in rw same at e
+  past (s ∷ xs) ys (c ▸ cs) at e =
+      let same : at + length (file_of (s ∷ xs)) ≡ at + length (encode s) + length (file_of xs) = omega (arith, length-append (encode s) (file_of xs)) in
+      rw (c.species, c.temperature, past xs ys cs (at + length (encode s)) (rw same at e))
+
+  module _ (ss : List Site) (i : ℕ) (d : Site) (h : i < length ss) {at len : ℕ} (so : MovedSoFar k (take i ss) at len) where
+    pub moved_fault : {r : Refusal} → held_at {A = Unit {0}} k (get_or ss i d) at (Ok tt) ≡ Err r → all_moved k 0 ss ≡ Err r
+    unfolding all_moved
+    moved_fault {r} e =
+        let s = get_or ss i d in
+        let rest = drop (suc i) ss in
+        let whole : take i ss ++ s ∷ rest ≡ ss = ap (λ xs. take i ss ++ xs) (sym (drop-cons ss i d h)) ∙ take-append-drop i ss in
+        let here : all_moved k at (s ∷ rest) ≡ Err r = held_err (first (moved k s) (all_moved k (at + length (encode s)) rest)) s at e in
+        let start : at ≡ 0 + length (file_of (take i ss)) = omega (arith, so.start) in
+        rw whole at (past (take i ss) (s ∷ rest) so.converts 0 (rw start at here))
+
+    pub moved_more : held_at {A = Unit {0}} k (get_or ss i d) at (Ok tt) ≡ Ok tt → (n m : ℕ) → n ≡ length (encode (get_or ss i d)) → m ≡ length (moved_record k (get_or ss i d))
+        → n ≤ most_site_record → m ≤ most_site_record → MovedSoFar k (take (i + 1) ss) (at + n) (len + m)
+    moved_more e n m p q few_n few_m =
+        let long : length (take (i + 1) ss) ≡ length (take i ss) + 1 = simp length-take (omega arith) in
+        record {
+          converts = rw (take_more ss i d h) (all_append so.converts (held_ok (get_or ss i d) at e ▸ none));
+          start = omega (arith, so.start, length_more encode ss i d h);
+          bytes = omega (arith, so.bytes, length_more (moved_record k) ss i d h);
+          few = (omega (arith, so.few, long), omega (arith, so.few, long));
+        }
+
+  pub moved_end : (ss : List Site) {at len : ℕ} → MovedSoFar k ss at len → AllConvert k ss len
+  moved_end ss so = record { converts = λ i h. all_at so.converts i blank_site h; bytes = so.bytes }

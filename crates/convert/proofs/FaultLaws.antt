@@ -13,6 +13,7 @@ use Rattle.std.proofs.lemmas.List.{get_or-append-add}
 use Rattle.numbers.specs.TwoBytes.{AllBytes}
 use Rattle.site.specs.Choice.{pick}
 use Rattle.site.specs.Kinds.{due, has_temperature, reference_temperature, counted_temperature}
+use Rattle.site.specs.Refusal.{Checked, unless}
 use Rattle.site.specs.declared.RecordKind.{RecordKind}
 use Rattle.site.specs.declared.RecordKind.TheVariants.{Tag52, Tag53, Tag54}
 use Rattle.site.specs.declared.Refusal.{Refusal}
@@ -23,9 +24,9 @@ use Rattle.record.specs.File.{contents}
 use Rattle.record.specs.Writer.{encode}
 use Rattle.record.proofs.SiteFile.{sites_written}
 use Rattle.convert.specs.Moved.{held_by, species_held, temperature_held, field_start}
-use Rattle.convert.specs.Converted.{all_moved, file_of, NotHeld, stand, temperature, FirstNotHeld}
+use Rattle.convert.specs.Converted.{held_at, all_moved, file_of, NotHeld, stand, temperature, FirstNotHeld}
 use Rattle.convert.proofs.ConvertedLaws.{first_not_held}
-use Rattle.convert.proofs.FieldStarts.{starts, temperature_start}
+use Rattle.convert.proofs.FieldStarts.{starts, stand_start, temperature_start}
 
 not_held : (b : Bool) {r : Rule} → held_by b ≡ Err r → r ≡ NotConvertible
 not_held true e = cc
@@ -76,6 +77,20 @@ module _ (list f : List ℕ) (b : AllBytes f) (k : RecordKind) (ss : List Site) 
       by_field (stand broken at) = (not_held _ broken, inl (there 7 (stand_due first.site.kind) at))
       by_field (temperature held broken at) = (not_held _ broken, inr (there 16 (temperature_due first.site.kind (has_field_10 k first.site broken)) at))
 
--- where rule 17 is broken at field 10, it starts 4 bytes before the record's end
-pub temperature_at : (k : RecordKind) (s : Site) {r : Rule} → temperature_held k s ≡ Err r → length (encode s) - 4 ≡ field_start 16 s
-temperature_at k s e = omega (arith, temperature_start s (has_field_10 k s e))
+-- rule 17 by what the fields say: field 07 starts behind the name, and field 10, where it breaks the rule, 4 bytes before the record's end
+pub held_by_field : (k : RecordKind) (s : Site) (at n : ℕ) → n ≡ length (encode s)
+    → held_at {A = Unit {0}} k s at (Ok tt) ≡ unless (species_held k s) (at + 28 + length (take s.name.len s.name.bytes)) (unless (temperature_held k s) (at + n - 4) (Ok tt))
+unfolding held_at unless
+held_by_field k s at n e = by_rules (species_held k s) (temperature_held k s) refl
+  where
+    stand_at : at + field_start 7 s ≡ at + 28 + length (take s.name.len s.name.bytes)
+    stand_at = omega (arith, stand_start s)
+
+    temperature_at : {r : Rule} → temperature_held k s ≡ Err r → at + field_start 16 s ≡ at + n - 4
+    temperature_at broken = omega (arith, temperature_start s (has_field_10 k s broken))
+
+    by_rules : (a b : Checked) → temperature_held k s ≡ b
+        → unless {A = Unit {0}} a (at + field_start 7 s) (unless b (at + field_start 16 s) (Ok tt)) ≡ unless a (at + 28 + length (take s.name.len s.name.bytes)) (unless b (at + n - 4) (Ok tt))
+    by_rules (Err r) b q = rw stand_at
+    by_rules (Ok u) (Ok v) q = refl
+    by_rules (Ok u) (Err r) q = rw (temperature_at q)

@@ -3,3 +3,4 @@ pub mod ConvertedLaws
 pub mod FieldStarts
 pub mod SameRecordsLaws
 pub mod FaultLaws
+pub mod ConvertLaws

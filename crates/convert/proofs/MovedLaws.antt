@@ -35,7 +35,7 @@ use Rattle.field.specs.Clean.{clean, Sized}
 use Rattle.field.proofs.All.{All, none, ◌▸◌, all_append}
 use Rattle.record.proofs.SiteTrips.{fields_passed}
 use Rattle.listing.specs.Rows.{row_by, row_of}
-use Rattle.convert.specs.Moved.{moved, held_by, species_held, temperature_held, Converts}
+use Rattle.convert.specs.Moved.{moved, held_by, small, species_held, temperature_held, Converts}
 
 -- what rule 17 says where it passes
 held_true : (b : Bool) → held_by b ≡ Ok tt → b ≡ true
@@ -112,21 +112,18 @@ entry_moved j k e p q =
     let first = and_l (species_ranged j e.species && share) yielded p in
     rw (species_moved j k e.species (and_l (species_ranged j e.species) share first) q, and_r (species_ranged j e.species) share first, and_r (species_ranged j e.species && share) yielded p) refl
 
-entries_moved : (j k : RecordKind) (es : List Entry) → list_all (entry_ranged j) es ≡ true → two_byte_species k || list_all (λ e. ltb e.species 256) es ≡ true
+entries_moved : (j k : RecordKind) (es : List Entry) → list_all (entry_ranged j) es ≡ true → two_byte_species k || list_all small es ≡ true
     → list_all (entry_ranged k) es ≡ true
 entries_moved j k [] p q = refl
 entries_moved j k (e ∷ es) p q =
     let here = each (two_byte_species k) q in
     rw (entry_moved j k e (and_l (entry_ranged j e) (list_all (entry_ranged j) es) p) here.0, entries_moved j k es (and_r (entry_ranged j e) (list_all (entry_ranged j) es) p) here.1) refl
   where
-    small : Entry → Bool
-    small x = ltb x.species 256
-
     each : (w : Bool) → w || small e && list_all small es ≡ true → (w || small e ≡ true) × (w || list_all small es ≡ true)
     each true q = (refl, refl)
     each false q = (and_l (small e) (list_all small es) q, and_r (small e) (list_all small es) q)
 
-stand_moved : (list : List ℕ) (j k : RecordKind) (es : List Entry) → stand_rule list j es ≡ Ok tt → two_byte_species k || list_all (λ e. ltb e.species 256) es ≡ true
+stand_moved : (list : List ℕ) (j k : RecordKind) (es : List Entry) → stand_rule list j es ≡ Ok tt → two_byte_species k || list_all small es ≡ true
     → stand_rule list k es ≡ Ok tt
 unfolding stand_rule entries_rule and_then
 stand_moved list j k es p q =
@@ -147,7 +144,7 @@ module _ (list : List ℕ) (k : RecordKind) (s : Site) (e : site_rule list s ≡
   abbrev Passes : ℕ → Type 0
   Passes t = (count_rule t (moved k s) ≡ Ok tt) × (value_rule list k t (moved k s) ≡ Ok tt)
 
-  wide : two_byte_species k || list_all (λ x. ltb x.species 256) (take s.stand.count s.stand.entries) ≡ true
+  wide : two_byte_species k || list_all small (take s.stand.count s.stand.entries) ≡ true
   unfolding species_held
   wide = held_true _ c.species
 
@@ -218,11 +215,8 @@ module _ (k : RecordKind) (s : Site) (tidy : clean s ≡ s) where
     stand = ap (λ (x : Site). length x.stand.entries) (sym tidy) ∙ padded 4 (take s.stand.count s.stand.entries) no_entry;
   }
 
-abbrev small_species : Entry → Bool
-small_species x = ltb x.species 256
-
 -- the species of a kind that has one byte for them
-all_small : (k : RecordKind) → two_byte_species k ≡ false → (es : List Entry) → list_all (entry_ranged k) es ≡ true → list_all small_species es ≡ true
+all_small : (k : RecordKind) → two_byte_species k ≡ false → (es : List Entry) → list_all (entry_ranged k) es ≡ true → list_all small es ≡ true
 all_small k narrow [] p = refl
 all_small k narrow (x ∷ xs) p =
     let here = narrow_species k narrow x (and_l (entry_ranged k x) (list_all (entry_ranged k) xs) p) in
@@ -234,7 +228,7 @@ module _ (list : List ℕ) (s : Site) (e : site_rule list s ≡ Ok tt) where
   unfolding species_held
   own_species = by_kind s.kind refl
     where
-      by_kind : (k : RecordKind) → s.kind ≡ k → held_by (two_byte_species k || list_all small_species (take s.stand.count s.stand.entries)) ≡ Ok tt
+      by_kind : (k : RecordKind) → s.kind ≡ k → held_by (two_byte_species k || list_all small (take s.stand.count s.stand.entries)) ≡ Ok tt
       by_kind Tag52 is = rw (all_small Tag52 refl (take s.stand.count s.stand.entries) (rw is at (site_ranged list s e)))
       by_kind Tag53 is = rw (all_small Tag53 refl (take s.stand.count s.stand.entries) (rw is at (site_ranged list s e)))
       by_kind Tag54 is = refl

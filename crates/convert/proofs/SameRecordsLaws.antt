@@ -44,21 +44,22 @@ map_same : (f : Site → Site) (ss : List Site) → All (λ s. f s ≡ s) ss →
 map_same f [] none = refl
 map_same f (s ∷ ss) (p ▸ ps) = rw (p, map_same f ss ps)
 
-map_each : {P : Site → Type 0} (f : Site → Site) (ss : List Site) → All (λ s. P (f s)) ss → All P (map f ss)
+pub map_each : {P : Site → Type 0} (f : Site → Site) (ss : List Site) → All (λ s. P (f s)) ss → All P (map f ss)
 map_each f [] none = none
 map_each f (s ∷ ss) (p ▸ ps) = p ▸ map_each f ss ps
 
-of_kind : (k : RecordKind) (ss : List Site) → OfKind k ss → All (λ s. s.kind ≡ k) ss
-of_kind k [] h = none
-of_kind k (s ∷ ss) h = h 0 (omega arith) ▸ of_kind k ss (λ i l. h (suc i) (omega arith))
+-- by their places
+pub all_places : {P : Site → Type 0} (ss : List Site) → ((i : ℕ) → i < length ss → P (get_or ss i blank_site)) → All P ss
+all_places [] h = none
+all_places (s ∷ ss) h = h 0 (omega arith) ▸ all_places ss (λ i l. h (suc i) (omega arith))
 
 -- ---- a file that passes, all of whose sites a record of kind k can hold
 
 module _ (list f : List ℕ) (b : AllBytes f) (k : RecordKind) (ss : List Site) (e : contents list f ≡ Ok ss) (c : All (Converts k) ss) where
-  passed : All (λ s. site_rule list s ≡ Ok tt) ss
+  pub passed : All (λ s. site_rule list s ≡ Ok tt) ss
   passed = (sites_checked list f ss e).1
 
-  tidy : All (λ s. clean s ≡ s) ss
+  pub tidy : All (λ s. clean s ≡ s) ss
   tidy = sites_clean list f ss e
 
   held : All (λ s. temperature_held k s ≡ Ok tt) ss
@@ -103,12 +104,12 @@ module _ (list f : List ℕ) (b : AllBytes f) (k : RecordKind) (ss : List Site) 
   goes_back : (j : RecordKind) → OfKind j ss → (converted j (contents list (file_of (map (moved k) ss))) ≡ Ok ss) × (file_of ss ≡ f)
   unfolding converted
   goes_back j kinds =
-      let each = of_kind j ss kinds in
+      let each = all_places ss kinds in
       (rw converted_passes (all_converts j (map (moved k) ss) (back_all j each) 0 ∙ ap Ok (back_sites j each)), sym (sites_written list f b ss e))
 
   is_itself : OfKind k ss → file_of (map (moved k) ss) ≡ f
   is_itself kinds =
-      let each = zip_all (λ s is x. subst (λ i. moved i s ≡ s) is x) (of_kind k ss kinds) (map-all (λ s t. moved_itself k s t) tidy) in
+      let each = zip_all (λ s is x. subst (λ i. moved i s ≡ s) is x) (all_places ss kinds) (map-all (λ s t. moved_itself k s t) tidy) in
       ap file_of (map_same (moved k) ss each) ∙ sym (sites_written list f b ss e)
 
   pub same_records : SameRecords list k f (file_of (map (moved k) ss))

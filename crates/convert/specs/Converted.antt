@@ -1,5 +1,5 @@
 -- A file's records moved to one kind: 17 at the first field, from the left, that a record of this kind cannot hold, after the file's own checks.
-use Rattle.std.specs.Prelude.{ℕ, ◌+◌, ◌*◌, ◌<◌, ◌≡◌, List, [], ◌∷◌, ◌++◌, length, get_or, flat_map, Ok, Err}
+use Rattle.std.specs.Prelude.{ℕ, ◌+◌, ◌*◌, ◌<◌, ◌≡◌, List, [], ◌∷◌, ◌++◌, length, get_or, flat_map, Result, Ok, Err}
 use Rattle.site.specs.Ranges.{most_records}
 use Rattle.site.specs.Refusal.{unless}
 use Rattle.site.specs.declared.RecordKind.{RecordKind}
@@ -7,29 +7,39 @@ use Rattle.site.specs.declared.Refusal.{Refusal}
 use Rattle.site.specs.declared.Site.{Site}
 use Rattle.field.specs.Field.{blank_site}
 use Rattle.record.specs.File.{Contents, first}
-use Rattle.record.specs.Writer.{encode}
+use Rattle.record.specs.Writer.{encode, most_site_record}
 use Rattle.convert.specs.Moved.{moved, species_held, temperature_held, Converts, field_start}
 
--- the sites of records that stand one after another from offset `at` on, each moved to kind k; within a record field 07 comes before field 10
+-- x, unless a record of kind k cannot hold a field of the site s, whose record starts at `at`: field 07, then field 10
+unfoldable pub held_at : {A : Type 0} → RecordKind → Site → ℕ → Result A Refusal → Result A Refusal
+held_at k s at x = unless (species_held k s) (at + field_start 7 s) (unless (temperature_held k s) (at + field_start 16 s) x)
+
+-- the sites of records that stand one after another from offset `at` on, each moved to kind k
 unfoldable pub all_moved : RecordKind → ℕ → List Site → Contents Site
 all_moved k at [] = Ok []
-all_moved k at (s ∷ ss) =
-    unless (species_held k s) (at + field_start 7 s)
-    (unless (temperature_held k s) (at + field_start 16 s)
-    (first (moved k s) (all_moved k (at + length (encode s)) ss)))
+all_moved k at (s ∷ ss) = held_at k s at (first (moved k s) (all_moved k (at + length (encode s)) ss))
 
 -- the sites of the converted file, from what the checks of the file say
 unfoldable pub converted : RecordKind → Contents Site → Contents Site
 converted k (Ok ss) = all_moved k 0 ss
 converted k (Err r) = Err r
 
--- its bytes: the records of the sites, one after another
+-- the record of a site in the kind it is moved to
+abbrev pub moved_record : RecordKind → Site → List ℕ
+moved_record k s = encode (moved k s)
+
+-- the file's bytes: the records of its sites, one after another
 abbrev pub file_of : List Site → List ℕ
 file_of ss = flat_map encode ss
 
--- those of 500 records of 104 bytes each, the greatest length, which kind 54 has; 52000
+-- those of 500 records of the greatest length; 52000
 abbrev pub most_converted : ℕ
-most_converted = most_records * 104
+most_converted = most_records * most_site_record
+
+-- a record of kind k can hold every site, and their records there have n bytes
+pub record AllConvert (k : RecordKind) (ss : List Site) (n : ℕ) : Type 0 where
+  pub converts : (i : ℕ) → i < length ss → Converts k (get_or ss i blank_site)
+  pub bytes : n ≡ length (flat_map (moved_record k) ss)
 
 -- ---- rule 17 as conditions: the first field, from the left, that a record of kind k cannot hold
 

@@ -20,8 +20,11 @@ abbrev pub held_by : Bool → Checked
 held_by b = pick b (Ok tt) (Err NotConvertible)
 
 -- field 07: where a species has one byte, all species are below 256
+abbrev pub small : Entry → Bool
+small e = ltb e.species 256
+
 unfoldable pub species_held : RecordKind → Site → Checked
-species_held k s = held_by (two_byte_species k || list_all (λ e. ltb e.species 256) (take s.stand.count s.stand.entries))
+species_held k s = held_by (two_byte_species k || list_all small (take s.stand.count s.stand.entries))
 
 -- field 10: where a record has none, the temperature is 8 °C
 unfoldable pub temperature_held : RecordKind → Site → Checked

@@ -17,7 +17,7 @@ use Rattle.record.specs.File.{contents}
 use Rattle.listing.specs.FileText.{file_answer, file_held, FileRoom}
 use Rattle.listing.specs.Reports.{printed, report_of}
 use Rattle.listing.specs.PrintedDemand3.{WrittenSays, WrittenDemand3}
-use Rattle.listing.proofs.ListLaws.{file_count, file_fault_near}
+use Rattle.listing.proofs.FiledLaws.{file_count, file_fault_near}
 use Rattle.exports.specs.Codes.{code_base, written_code, Small}
 use Rattle.exports.specs.Lent.{lent_contents, lent_report, LentSays}
 use Rattle.exports.proofs.CodeLaws.{count_below}
@@ -55,8 +55,8 @@ module _ (most : ℕ) (text : List Site → List ℕ) (Say : List ℕ → List S
         answer = rw is answer;
         buffer = rw is buffer;
         small = record {
-          count = λ n q. omega (arith, file_count most text Say list f d (sym answer ∙ q) (rw q at room));
-          offset = λ k q. omega (arith, file_fault_near most text Say list f d (sym answer ∙ q));
+          count = λ n q. omega (arith, file_count most text (contents list f) d (sym answer ∙ q) (rw q at room));
+          offset = λ k q. omega (arith, file_fault_near most text (contents list f) d (most_record * most_records) (λ r e. sites_fault_near list f e) (sym answer ∙ q));
         };
         demand3 = λ g. says;
       }

@@ -23,6 +23,7 @@ use Rattle.listing.specs.Rows.{row_of, walked_of}
 use Rattle.listing.specs.FileText.{file_answer, file_numbers, file_held, FileRoom}
 use Rattle.listing.specs.Reports.{listing_of, printed, report_of}
 use Rattle.listing.specs.PrintedDemand3.{LinesSay, WrittenSays, WrittenDemand3}
+use Rattle.listing.proofs.FiledLaws.{Filed, filed, not_filed}
 use Rattle.listing.proofs.Demand3Laws.{listing_says}
 
 -- ---- what the walk has found
@@ -61,38 +62,18 @@ module _ (most : ℕ) (text : List Site → List ℕ) (Say : List ℕ → List S
       (r ≡ file_answer text (contents list f) d)
       × ((e ≡ file_held text (contents list f) d) × ((written_numbers r ≡ file_numbers text (contents list f) d) × (FileRoom most text (contents list f) d r × WrittenSays Say list f e r)))
 
-  module _ (ss : List Site) (h : contents list f ≡ Ok ss) {e : List ℕ} {r : Written} (a : AnsweredWithin most (text ss) d e r) where
-    enough : FileRoom most text (contents list f) d r
-    enough ts g = let same : ss ≡ ts = cc in rw (← same) a.enough
+  with_says : {e : List ℕ} {r : Written} → Filed most text (contents list f) d e r → WrittenSays Say list f e r → FileClauses e r
+  with_says x says = (x.answer, (x.buffer, (x.numbers, (x.enough, says))))
 
+  module _ (ss : List Site) (h : contents list f ≡ Ok ss) {e : List ℕ} {r : Written} (a : AnsweredWithin most (text ss) d e r) where
     says_so : Say list ss (text ss) → WrittenSays Say list f e r
     says_so says n b ts g = let same : ss ≡ ts = cc in rw (written (text ss) d e r a.answer a.buffer n b, ← same) says
 
     pub filed_sites : Say list ss (text ss) → FileClauses e r
-    unfolding file_answer file_held file_numbers
-    filed_sites says = (rw h a.answer, (rw h a.buffer, (rw h a.numbers, (enough, says_so says))))
+    filed_sites says = with_says (filed most text (contents list f) d ss h a) (says_so says)
 
   pub filed_fault : {k : Refusal} → contents list f ≡ Err k → FileClauses d (Err k)
-  unfolding file_answer file_held file_numbers written_numbers
-  filed_fault h = (rw h, (rw h, (rw h, (λ ss g. (let z = sym h ∙ g in cc), λ n b. cc))))
-
-  -- no text is longer than the longest
-  pub file_count : {n : ℕ} → file_answer text (contents list f) d ≡ Ok n → FileRoom most text (contents list f) d (Ok n) → n ≤ most
-  unfolding file_answer
-  file_count {n} is room = by_contents (contents list f) refl is
-    where
-      by_contents : (c : Contents Site) → contents list f ≡ c → file_answer text c d ≡ Ok n → n ≤ most
-      by_contents (Ok ss) q e = omega (arith, count_is _ _ e, (room ss q).bounded)
-      by_contents (Err k) q e = cc
-
-  -- no refusal lies past 500 records of the greatest length
-  pub file_fault_near : {k : Refusal} → file_answer text (contents list f) d ≡ Err k → k.at ≤ most_record * most_records
-  unfolding file_answer
-  file_fault_near {k} e = by_contents (contents list f) refl e
-    where
-      by_contents : (c : Contents Site) → contents list f ≡ c → file_answer text c d ≡ Err k → k.at ≤ most_record * most_records
-      by_contents (Ok ss) q e = omega (arith, refused_at_0 _ _ e)
-      by_contents (Err j) q e = let same : j ≡ k = cc in rw (← same) (sites_fault_near list f q)
+  filed_fault h = with_says (not_filed most text (contents list f) d h) (λ n b. cc)
 
 -- the listing
 pub listed_sites : (list f d : List ℕ) {e : List ℕ} {r : Written} (ss : List Site) → contents list f ≡ Ok ss → Answered (listing_of list ss) d e r → FileClauses most_text (listing_of list) LinesSay list f d e r

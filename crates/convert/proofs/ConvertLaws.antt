@@ -1,0 +1,80 @@
+-- From the sites of a file to what the call answers and writes.
+use mathlib.Core.Path.{◌≡◌, refl, sym, ap, ◌∙◌}
+use mathlib.Core.List.{List, [], ◌∷◌, map}
+use Prim.Native.Nat.{ℕ, ◌+◌, ◌*◌, ◌≤◌, ◌<◌}
+use native.Mathlib.Omega.{arith}
+use lib.ListN.{length, take, length-append, length-map}
+use Rattle.std.specs.Prelude.{Ok, Err, IfOk, flat_map}
+use Rattle.std.proofs.lemmas.List.Folds.{flat_map-map}
+use Rattle.numbers.specs.TwoBytes.{AllBytes}
+use Rattle.site.specs.Ranges.{most_records}
+use Rattle.site.specs.declared.RecordKind.{RecordKind}
+use Rattle.site.specs.declared.Refusal.{Refusal}
+use Rattle.site.specs.declared.Rule.TheVariants.{BufferShort}
+use Rattle.site.specs.declared.Site.{Site}
+use Rattle.output.specs.Output.{Written}
+use Rattle.output.specs.Writing.{Wrote}
+use Rattle.field.specs.Clean.{Sized}
+use Rattle.field.proofs.All.{All, none, ◌▸◌, map-all}
+use Rattle.text.proofs.TextAnswers.{AnsweredWithin, text_refused, text_printed, written}
+use Rattle.record.specs.File.{Contents, contents}
+use Rattle.record.specs.Writer.{encode, most_site_record}
+use Rattle.record.proofs.EncodeLaws.{record_few}
+use Rattle.record.proofs.SiteFile.{sites_checked}
+use Rattle.listing.proofs.FiledLaws.{Filed, filed, not_filed}
+use Rattle.convert.specs.Moved.{moved, Converts}
+use Rattle.convert.specs.Converted.{all_moved, AllConvert, moved_record, converted, file_of, most_converted}
+use Rattle.convert.specs.SameRecords.{SameRecords}
+use Rattle.convert.proofs.MovedLaws.{moved_sized}
+use Rattle.convert.proofs.ConvertedLaws.{all_converts}
+use Rattle.convert.proofs.SameRecordsLaws.{all_places, map_each, tidy, same_records}
+
+-- no record is longer than the greatest
+records_few : (ss : List Site) → All Sized ss → length (file_of ss) ≤ most_site_record * length ss
+records_few [] none = omega arith
+records_few (s ∷ ss) (z ▸ zs) = omega (arith, length-append (encode s) (file_of ss), record_few s z, records_few ss zs)
+
+module _ (list f d : List ℕ) (k : RecordKind) where
+  -- the clauses of the call
+  abbrev Clauses : List ℕ → Written → Type 0
+  Clauses e r = Filed most_converted file_of (converted k (contents list f)) d e r × IfOk r (λ n. SameRecords list k f (take n e))
+
+  -- the file's own fault
+  pub convert_fault : {r : Refusal} → contents list f ≡ Err r → Clauses d (Err r)
+  unfolding converted
+  convert_fault e = (not_filed most_converted file_of (converted k (contents list f)) d (rw e), tt)
+
+  module _ (ss : List Site) (e : contents list f ≡ Ok ss) where
+    -- rule 17
+    pub convert_not_held : {r : Refusal} → all_moved k 0 ss ≡ Err r → Clauses d (Err r)
+    unfolding converted
+    convert_not_held m = (not_filed most_converted file_of (converted k (contents list f)) d (rw e m), tt)
+
+    module _ (b : AllBytes f) {n : ℕ} (all : AllConvert k ss n) where
+      holds : All (Converts k) ss
+      holds = all_places ss all.converts
+
+      made : converted k (contents list f) ≡ Ok (map (moved k) ss)
+      unfolding converted
+      made = rw e (all_converts k ss holds 0)
+
+      bytes : flat_map (moved_record k) ss ≡ file_of (map (moved k) ss)
+      bytes = sym (flat_map-map encode (moved k) ss)
+
+      long : n ≡ length (file_of (map (moved k) ss))
+      long = all.bytes ∙ ap length bytes
+
+      few : length (file_of (map (moved k) ss)) ≤ most_converted
+      few =
+          let sized = map_each (moved k) ss (map-all (λ s t. moved_sized k s t) (tidy list f b k ss e holds)) in
+          omega (arith, records_few (map (moved k) ss) sized, length-map ss (moved k), (sites_checked list f ss e).0)
+
+      -- rule 11
+      pub convert_short : length d < n → Clauses d (Err (record { rule = BufferShort; at = 0 }))
+      convert_short h = (filed most_converted file_of (converted k (contents list f)) d (map (moved k) ss) made (text_refused (file_of (map (moved k) ss)) d (omega (arith, long)) few), tt)
+
+      pub convert_done : n ≤ length d → {e' : List ℕ} {r : ℕ} → Wrote d 0 (flat_map (moved_record k) ss) e' r → Clauses e' (Ok r)
+      convert_done h w =
+          let text = file_of (map (moved k) ss) in
+          let a = text_printed {most = most_converted} text (rw bytes at w) (omega (arith, long)) few in
+          (filed most_converted file_of (converted k (contents list f)) d (map (moved k) ss) made a, rw (written text d _ _ a.answer a.buffer _ refl) (same_records list f b k ss e holds))

@@ -1,0 +1,61 @@
+// The records of a file moved to one kind, into a lent buffer.
+ghost use Rattle.std.specs.Prelude.{◌≡◌, ◌≤◌, MatchResult, Err, IfOk, length, take, flat_map};
+ghost use Rattle.site.specs.Ranges.{most_records};
+ghost use Rattle.output.specs.Output.{written_numbers};
+ghost use Rattle.output.specs.Writing.{Wrote};
+ghost use Rattle.record.specs.File.{contents};
+ghost use Rattle.listing.specs.FileText.{file_answer, file_numbers, file_held, FileRoom};
+ghost use Rattle.convert.specs.Converted.{all_moved, AllConvert, moved_record, converted, file_of, most_converted};
+ghost use Rattle.convert.specs.SameRecords.{SameRecords};
+
+use crate::moving::{held, moved};
+use record::{put_record, read_sites, record_len};
+use site::{RecordKind, Refusal, Rule, Site, SpeciesList};
+
+// How many bytes the sites' records take in the kind, or rule 17 at the first that it cannot hold.
+fn moved_len(kind: RecordKind, sites: &[Site]) -> Result<usize, Refusal>
+    requires { length sites.now ≤ most_records }
+    ensures { MatchResult result (λ n. AllConvert kind sites.now n) (λ refusal. all_moved kind 0 sites.now ≡ Err refusal) }
+{
+    let mut at = 0;
+    let mut len = 0;
+    for site in sites {
+        let n = record_len(*site);
+        held(kind, *site, at, n)?;
+        at += n;
+        len += record_len(moved(kind, *site));
+    }
+    Ok(len)
+}
+
+fn put_moved(out: &mut [u8], kind: RecordKind, sites: &[Site]) -> usize
+    requires { length (flat_map (moved_record kind) sites.now) ≤ length out.old }
+    ensures { Wrote out.old 0 (flat_map (moved_record kind) sites.now) out.new result }
+{
+    let mut end = 0;
+    for site in sites {
+        end = put_record(out, end, moved(kind, *site));
+    }
+    end
+}
+
+// Nothing is written before the whole file is known to convert and to fit.
+pub fn convert(
+    file: &[u8],
+    list: SpeciesList<'_>,
+    target: RecordKind,
+    out: &mut [u8],
+) -> Result<usize, Refusal>
+    ensures answer { result ≡ file_answer file_of (converted target (contents list.entry.bytes.now file.now)) out.old }
+    ensures buffer { out.new ≡ file_held file_of (converted target (contents list.entry.bytes.now file.now)) out.old }
+    ensures numbers { written_numbers result ≡ file_numbers file_of (converted target (contents list.entry.bytes.now file.now)) out.old }
+    ensures enough { FileRoom most_converted file_of (converted target (contents list.entry.bytes.now file.now)) out.old result }
+    ensures same { IfOk result (λ n. SameRecords list.entry.bytes.now target file.now (take n out.new)) }
+{
+    let sites = read_sites(file, list)?;
+    let len = moved_len(target, &sites)?;
+    if out.len() < len {
+        return Err(Rule::BufferShort.into());
+    }
+    Ok(put_moved(out, target, &sites))
+}
