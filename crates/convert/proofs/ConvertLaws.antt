@@ -1,9 +1,10 @@
 -- From the sites of a file to what the call answers and writes.
 use mathlib.Core.Path.{◌≡◌, refl, sym, ap, ◌∙◌}
+use mathlib.Core.Logic.{⊎_elim}
 use mathlib.Core.List.{List, [], ◌∷◌, map}
 use Prim.Native.Nat.{ℕ, ◌+◌, ◌*◌, ◌≤◌, ◌<◌}
 use native.Mathlib.Omega.{arith}
-use lib.ListN.{length, take, length-append, length-map}
+use lib.ListN.{length, get_or, get_or-eq_default, take, length-append, length-map}
 use Rattle.std.specs.Prelude.{Ok, Err, IfOk, flat_map}
 use Rattle.std.proofs.lemmas.List.Folds.{flat_map-map}
 use Rattle.numbers.specs.TwoBytes.{AllBytes}
@@ -12,20 +13,23 @@ use Rattle.site.specs.declared.RecordKind.{RecordKind}
 use Rattle.site.specs.declared.Refusal.{Refusal}
 use Rattle.site.specs.declared.Rule.TheVariants.{BufferShort}
 use Rattle.site.specs.declared.Site.{Site}
+use Rattle.site.proofs.Tests.{le_or_lt}
 use Rattle.output.specs.Output.{Written}
 use Rattle.output.specs.Writing.{Wrote}
 use Rattle.field.specs.Clean.{Sized}
 use Rattle.field.proofs.All.{All, none, ◌▸◌, map-all}
 use Rattle.text.proofs.TextAnswers.{AnsweredWithin, text_refused, text_printed, written}
 use Rattle.record.specs.File.{Contents, contents}
+use Rattle.record.specs.Records.{most_record}
 use Rattle.record.specs.Writer.{encode, most_site_record}
 use Rattle.record.proofs.EncodeLaws.{record_few}
-use Rattle.record.proofs.SiteFile.{sites_checked}
+use Rattle.record.proofs.SiteFile.{sites_checked, sites_clean, sites_written, sites_fault_near}
 use Rattle.listing.proofs.FiledLaws.{Filed, filed, not_filed}
 use Rattle.convert.specs.Moved.{moved, Converts}
 use Rattle.convert.specs.Converted.{all_moved, AllConvert, moved_record, converted, file_of, most_converted}
 use Rattle.convert.specs.SameRecords.{SameRecords}
-use Rattle.convert.proofs.MovedLaws.{moved_sized}
+use Rattle.convert.proofs.FaultLaws.{fault_at_field}
+use Rattle.convert.proofs.MovedLaws.{clean_sized, moved_sized}
 use Rattle.convert.proofs.ConvertedLaws.{all_converts}
 use Rattle.convert.proofs.SameRecordsLaws.{all_places, map_each, tidy, same_records}
 
@@ -33,6 +37,29 @@ use Rattle.convert.proofs.SameRecordsLaws.{all_places, map_each, tidy, same_reco
 records_few : (ss : List Site) → All Sized ss → length (file_of ss) ≤ most_site_record * length ss
 records_few [] none = omega arith
 records_few (s ∷ ss) (z ▸ zs) = omega (arith, length-append (encode s) (file_of ss), record_few s z, records_few ss zs)
+
+-- no refusal lies past 500 records of the greatest length
+module _ (list f : List ℕ) (b : AllBytes f) (k : RecordKind) where
+  held_near : (ss : List Site) → contents list f ≡ Ok ss → {r : Refusal} → all_moved k 0 ss ≡ Err r → r.at ≤ most_record * most_records
+  held_near ss e {r} fault =
+      let sized = map-all (λ s t. clean_sized k s t) (sites_clean list f ss e) in
+      let long : length f ≤ most_site_record * length ss = rw (sites_written list f b ss e) (records_few ss sized) in
+      omega (arith, ⊎_elim (λ h. inside 6 h) (λ h. inside 15 h) (fault_at_field list f b k ss e fault).1, long, (sites_checked list f ss e).0)
+    where
+      inside : (t : ℕ) → get_or f r.at 0 ≡ t + 1 → r.at < length f
+      inside t h =
+          ⊎_elim
+          (λ (past : length f ≤ r.at). let none : get_or f r.at 0 ≡ 0 = get_or-eq_default f 0 {n = r.at} past in absurd (omega arith))
+          (λ (before : r.at < length f). before)
+          (le_or_lt (length f) r.at)
+
+  pub converted_near : (r : Refusal) → converted k (contents list f) ≡ Err r → r.at ≤ most_record * most_records
+  unfolding converted
+  converted_near r e = by_contents (contents list f) refl e
+    where
+      by_contents : (c : Contents Site) → contents list f ≡ c → converted k c ≡ Err r → r.at ≤ most_record * most_records
+      by_contents (Ok ss) q fault = held_near ss q fault
+      by_contents (Err j) q fault = let same : j ≡ r = cc in rw (← same) (sites_fault_near list f q)
 
 module _ (list f d : List ℕ) (k : RecordKind) where
   -- the clauses of the call

@@ -208,12 +208,16 @@ module _ (k : RecordKind) (s : Site) (tidy : clean s ≡ s) where
   unfolding moved
   moved_itself = rw counted_here
 
-  pub moved_sized : Sized (moved k s)
-  unfolding clean moved
-  moved_sized = record {
+  pub clean_sized : Sized s
+  unfolding clean
+  clean_sized = record {
     name = ap (λ (x : Site). length x.name.bytes) (sym tidy) ∙ padded 8 (take s.name.len s.name.bytes) 0;
     stand = ap (λ (x : Site). length x.stand.entries) (sym tidy) ∙ padded 4 (take s.stand.count s.stand.entries) no_entry;
   }
+
+  pub moved_sized : Sized (moved k s)
+  unfolding moved
+  moved_sized = record { name = clean_sized.name; stand = clean_sized.stand }
 
 -- the species of a kind that has one byte for them
 all_small : (k : RecordKind) → two_byte_species k ≡ false → (es : List Entry) → list_all (entry_ranged k) es ≡ true → list_all small es ≡ true

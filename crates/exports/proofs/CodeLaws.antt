@@ -10,8 +10,8 @@ use Rattle.site.specs.declared.Rule.TheVariants.{NoBytes, OuterCut, OuterTag, To
 use Rattle.output.specs.Output.{Written}
 use Rattle.exports.specs.Codes.{code_base, written_code, Decodes, Small}
 
--- the rules' numbers are 1 to 16
-pub number_range : (r : Rule) → (1 ≤ rule_number r) × (rule_number r ≤ 16)
+-- the rules' numbers are 1 to 17
+pub number_range : (r : Rule) → (1 ≤ rule_number r) × (rule_number r ≤ 17)
 number_range NoBytes = (omega arith, omega arith)
 number_range OuterCut = (omega arith, omega arith)
 number_range OuterTag = (omega arith, omega arith)

@@ -1,10 +1,11 @@
 -- What the listing, the report and the pages of a file are with a list that is lent, and what they give to C.
-use Prim.Native.Nat.{ℕ, ◌<◌}
-use mathlib.Core.Path.{◌≡◌, sym, ◌∙◌}
+use Prim.Native.Nat.{ℕ, ◌*◌, ◌≤◌, ◌<◌}
+use mathlib.Core.Path.{◌≡◌, refl, sym, ap, ◌∙◌}
 use mathlib.Core.List.{List}
 use native.Mathlib.Omega.{arith}
 use lib.ListN.{take}
 use Rattle.site.specs.SpeciesList.{list_rule, list_fault}
+use Rattle.site.specs.Ranges.{most_records}
 use Rattle.site.specs.declared.Site.{Site}
 use Rattle.std.specs.Prelude.{Ok, Err}
 use Rattle.site.specs.declared.Refusal.{Refusal}
@@ -13,7 +14,9 @@ use Rattle.output.specs.Output.{Written, held}
 use Rattle.text.specs.RefusalLine.{refusal}
 use Rattle.text.specs.TextAnswer.{text_answer, RoomEnough}
 use Rattle.output.proofs.OutputLaws.{count_is, refused_at_0}
-use Rattle.record.specs.File.{contents}
+use Rattle.record.specs.File.{Contents, contents}
+use Rattle.record.specs.Records.{most_record}
+use Rattle.record.proofs.SiteFile.{sites_fault_near}
 use Rattle.listing.specs.FileText.{file_answer, file_held, FileRoom}
 use Rattle.listing.specs.Reports.{printed, report_of}
 use Rattle.listing.specs.PrintedDemand3.{WrittenSays, WrittenDemand3}
@@ -23,43 +26,54 @@ use Rattle.exports.specs.Lent.{lent_contents, lent_report, LentSays}
 use Rattle.exports.proofs.CodeLaws.{count_below}
 use Rattle.exports.proofs.LentLaws.{lent_good, lent_bad}
 
--- ---- a text of the sites of a file: the listing, the pages
+-- ---- a text of the sites of a file: the listing, the pages; and of what `step` makes of them, where it hands on a refusal: the converted file
 
-module _ (most : ℕ) (text : List Site → List ℕ) (Say : List ℕ → List Site → List ℕ → Type 0) (list f d : List ℕ) where
+module _ (most : ℕ) (text : List Site → List ℕ) (step : Contents Site → Contents Site) (handed_on : (r : Refusal) → step (Err r) ≡ Err r) (list f d : List ℕ) where
   -- what the call does that takes the list's bytes
   pub record Filed (e : List ℕ) (l : Written) : Type 0 where
-    pub answer : l ≡ file_answer text (lent_contents list f) d
-    pub buffer : e ≡ file_held text (lent_contents list f) d
+    pub answer : l ≡ file_answer text (step (lent_contents list f)) d
+    pub buffer : e ≡ file_held text (step (lent_contents list f)) d
     pub small : Small l
-    pub demand3 : list_rule list ≡ Ok tt → WrittenSays Say list f e l
 
   pub list_refused : {r : Refusal} → list_rule list ≡ Err r.rule → r.at ≡ list_fault list → Filed d (Err r)
   unfolding file_answer file_held
-  list_refused bad at =
-      let is = lent_bad list (contents list f) bad at in
+  list_refused {r} bad at =
+      let is : step (lent_contents list f) ≡ Err r = ap step (lent_bad list (contents list f) bad at) ∙ handed_on r in
       record {
         answer = rw is;
         buffer = rw is;
         small = record { count = λ n q. cc; offset = λ k q. near at q };
-        demand3 = λ good n q. cc;
       }
     where
       near : {j k : Refusal} → j.at ≡ list_fault list → ◌≡◌ {A = Written} (Err j) (Err k) → k.at < code_base
       near {j} {k} place q = let z : j ≡ k = cc in rw (← z) (omega (arith, place, fault_near list))
 
-  pub filed : {e : List ℕ} {l : Written} → list_rule list ≡ Ok tt → most < code_base
-      → l ≡ file_answer text (contents list f) d → e ≡ file_held text (contents list f) d → WrittenSays Say list f e l → FileRoom most text (contents list f) d l → Filed e l
-  filed good fits answer buffer says room =
+  pub filed : {e : List ℕ} {l : Written} → list_rule list ≡ Ok tt → most < code_base → ((r : Refusal) → step (contents list f) ≡ Err r → r.at ≤ most_record * most_records)
+      → l ≡ file_answer text (step (contents list f)) d → e ≡ file_held text (step (contents list f)) d → FileRoom most text (step (contents list f)) d l → Filed e l
+  filed good fits near answer buffer room =
       let is = lent_good list (contents list f) good in
       record {
         answer = rw is answer;
         buffer = rw is buffer;
         small = record {
-          count = λ n q. omega (arith, file_count most text (contents list f) d (sym answer ∙ q) (rw q at room));
-          offset = λ k q. omega (arith, file_fault_near most text (contents list f) d (most_record * most_records) (λ r e. sites_fault_near list f e) (sym answer ∙ q));
+          count = λ n q. omega (arith, file_count most text (step (contents list f)) d (sym answer ∙ q) (rw q at room));
+          offset = λ k q. omega (arith, file_fault_near most text (step (contents list f)) d (most_record * most_records) near (sym answer ∙ q));
         };
-        demand3 = λ g. says;
       }
+
+-- the sites themselves: what is listed or put on pages
+module _ (most : ℕ) (text : List Site → List ℕ) (Say : List ℕ → List Site → List ℕ → Type 0) (list f d : List ℕ) where
+  pub record Says (e : List ℕ) (l : Written) : Type 0 where
+    pub filed : Filed most text (λ c. c) (λ r. refl) list f d e l
+    pub demand3 : list_rule list ≡ Ok tt → WrittenSays Say list f e l
+
+  pub says_refused : {r : Refusal} → list_rule list ≡ Err r.rule → r.at ≡ list_fault list → Says d (Err r)
+  says_refused bad at = record { filed = list_refused most text (λ c. c) (λ r. refl) list f d bad at; demand3 = λ good n q. cc }
+
+  pub says_filed : {e : List ℕ} {l : Written} → list_rule list ≡ Ok tt → most < code_base
+      → l ≡ file_answer text (contents list f) d → e ≡ file_held text (contents list f) d → WrittenSays Say list f e l → FileRoom most text (contents list f) d l → Says e l
+  says_filed good fits answer buffer says room =
+      record { filed = filed most text (λ c. c) (λ r. refl) list f d good fits (λ r e. sites_fault_near list f e) answer buffer room; demand3 = λ g. says }
 
 -- ---- the report
 

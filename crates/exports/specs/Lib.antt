@@ -1,4 +1,5 @@
 pub mod Lent
+pub mod Target
 pub mod Codes
 pub mod Numbers
 pub mod Layout

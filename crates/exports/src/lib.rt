@@ -2,6 +2,7 @@
 #![tactic(auto)]
 
 mod codes;
+mod convert_calls;
 mod file_calls;
 mod layout;
 mod putting;
@@ -9,6 +10,7 @@ mod record_calls;
 mod sample_calls;
 mod value_calls;
 
+pub use convert_calls::forest_convert;
 pub use file_calls::{forest_list, forest_pages, forest_report};
 pub use record_calls::forest_rewrite;
 pub use sample_calls::forest_sample;

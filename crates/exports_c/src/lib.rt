@@ -15,6 +15,8 @@ ghost use Rattle.listing.specs.PrintedDemand3.{LinesSay};
 ghost use Rattle.pages.specs.Pages.{pages_of};
 ghost use Rattle.pages.specs.PagesDemand3.{PagesSay};
 ghost use Rattle.exports.specs.Codes.{code_base, written_code, Decodes, rewrite_answer, rewrite_held};
+ghost use Rattle.convert.specs.Converted.{file_of};
+ghost use Rattle.exports.specs.Target.{converted_to, MovedTo};
 ghost use Rattle.exports.specs.Lent.{lent, lent_contents, lent_report, LentSays};
 ghost use Rattle.exports.specs.Numbers.{numbers_written, numbers_held};
 ghost use Rattle.exports.specs.Layout.{site_in, given, site_load_numbers, judgement_numbers};
@@ -48,6 +50,16 @@ pub extern "C" fn forest_pages(file: &[u8], list: &[u8], out: &mut [u8]) -> u64
     ensures demand3 { result < code_base → LentSays PagesSay list.now file.now (take result out.new) }
 {
     exports::forest_pages(file, list, out)
+}
+
+#[unsafe(no_mangle)]
+pub extern "C" fn forest_convert(file: &[u8], list: &[u8], target: u8, out: &mut [u8]) -> u64
+    ensures answer { result ≡ written_code (file_answer file_of (converted_to target list.now file.now) out.old) }
+    ensures buffer { out.new ≡ file_held file_of (converted_to target list.now file.now) out.old }
+    ensures decoded { Decodes (file_answer file_of (converted_to target list.now file.now) out.old) result }
+    ensures same { result < code_base → MovedTo target list.now file.now (take result out.new) }
+{
+    exports::forest_convert(file, list, target, out)
 }
 
 #[unsafe(no_mangle)]
