@@ -21,8 +21,6 @@ fn row_by(site: Site, judged: Judged) -> Row
     }
 }
 
-// Kept a function of its own: written into the loop it has the rows laid out once more on the stack.
-#[inline(never)]
 #[tactic(auto, unfolding(crate::specs::Rows::row_of))]
 fn row_of(passed: PassedSite<'_>) -> Row
     ensures { result ≡ row_of passed.entry.list.bytes.now passed.entry.site }
@@ -30,7 +28,8 @@ fn row_of(passed: PassedSite<'_>) -> Row
     row_by(passed.site, judge_passed(passed))
 }
 
-// The rows of a file, or its first fault.
+// The rows of a file, or its first fault. Written into each of its callers: as a function of its own it has the rows laid out once more on their stack.
+#[inline(always)]
 pub fn walk_file(file: &[u8], list: SpeciesList<'_>) -> Result<ArrayVec<Row, 500>, Refusal>
     ensures answer { let l = list.entry.bytes.now in MatchResult result (λ rows. walked_of l (contents l file.now) ≡ Ok rows.items) (λ refusal. walked_of l (contents l file.now) ≡ Err refusal) }
     ensures numbers { result_numbers result ≡ result_numbers (contents list.entry.bytes.now file.now) }

@@ -38,7 +38,9 @@ impl<'a> Records<'a> {
         })
     }
 
-    // The next record, or none at the end of the file.
+    // The next record, or none at the end of the file. Kept a function of its own: written into the walk over a file it has the program's rows laid out once more
+    // on the stack.
+    #[inline(never)]
     #[tactic(auto, using(crate::proofs::UnreadLaws::unread_end, crate::proofs::UnreadLaws::unread_full), unfolding(crate::specs::Unread::came))]
     pub fn next(&mut self) -> Result<Option<Site>, Refusal>
         ensures answer { unread self.old ≡ came result (unread self.new) }
