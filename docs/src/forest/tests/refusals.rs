@@ -3,8 +3,12 @@
 
 mod common;
 
-use common::{a1, a1_with, bytes, outer, record, A1_FIELDS};
+use common::{a1, a1_with, bytes, outer, A1_FIELDS};
 use forest::{Kind, Refusal, Site};
+
+fn record(fields: &[&str]) -> Vec<u8> {
+    outer(0x52, fields)
+}
 
 /// The refusal of a file, as its number and offset. The pages give the same, and the single-record read for a file of one
 /// record.
