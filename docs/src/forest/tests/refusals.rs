@@ -1,5 +1,5 @@
 //! Each refusal of document 01 with its offset, and those of E5's field 10; every one leaves the buffer as it was. Those of E6
-//! stand in `species.rs`.
+//! stand in `species.rs`, that of E7 in `convert.rs`.
 
 mod common;
 
