@@ -23,7 +23,7 @@
  *   14  S or N of the year above 65,535                                                12
  *   15  entry of the species list broken, not rising, or of a number not 256 to 1023   the entry, in the list
  *   16  species that the species list lacks                                            the stand's field
- *   17  species or temperature that the target's kind has no place for                 the first such field
+ *   17  species, or temperature, that the target's kind cannot hold                    the first such field
  *
  * Offsets count bytes from the start of the file or record; of a site value each is 0; 8 for a month's rain is at the month,
  * and 15 is counted from the start of the list. 15 comes ahead of all others but 3 for a target. Then the first fault from
@@ -109,13 +109,14 @@ uint64_t forest_report(const uint8_t *file, size_t file_len, const uint8_t *list
 uint64_t forest_rewrite(const uint8_t *record, size_t record_len, const uint8_t *list, size_t list_len, uint8_t *out,
                         size_t out_len);
 
-/* The records of a file, all moved to the kind with the outer tag `target`, 52, 53 or 54 (hexadecimal); the file may have
- * several kinds. Up from 52 the temperature is 8 degrees Celsius; into 54 each species gains a high byte of zero. A record
- * goes down to 52 only at 8 degrees, and out of 54 only where all its species are below 256; one of the target's kind stays
- * as it is. A moved record has the loads and the mark that it had, and a file of one kind, moved and moved back to that kind,
- * its bytes. A target other than the three is refused by 3 at 0 ahead of all else; then come the list (15), the whole file as
- * for forest_list (1 to 10 and 16), 17 at the first field 07 or 10, from the left, that its record cannot take along, and 11.
- * A moved record has at most 104 bytes: a buffer of FOREST_MOST_CONVERTED bytes is always long enough. Stack: @STACK@ KiB. */
+/* The records of a file, of one kind or of several, all moved to the kind with the outer tag `target`, 52, 53 or 54
+ * (hexadecimal). Up from 52 the temperature is 8 degrees Celsius; into 54 a species gains a high byte of zero. A record goes
+ * down to 52 only at 8 degrees, and out of 54 only where all its species are below 256; one of the target's kind stays as it
+ * is. A record keeps its loads and its mark, and a file of one kind, moved and then moved back, its bytes.
+ * Refused are, in this order: a target other than the three (3, at 0); the list (15); the file, as by forest_list (1 to 10
+ * and 16); the first field from the left that cannot go down, 07 ahead of 10 in a record (17); a buffer shorter than the
+ * moved file (11). A moved record has at most 104 bytes: a buffer of FOREST_MOST_CONVERTED bytes is always long enough.
+ * Stack: @STACK@ KiB. */
 uint64_t forest_convert(const uint8_t *file, size_t file_len, const uint8_t *list, size_t list_len, uint8_t target,
                         uint8_t *out, size_t out_len);
 
@@ -143,8 +144,8 @@ uint64_t forest_judge(const uint8_t *site, size_t site_len, const uint8_t *list,
 uint64_t forest_sample(const uint8_t *site, size_t site_len, const uint8_t *list, size_t list_len, const uint8_t *months,
                        size_t months_len, uint64_t *out, size_t out_len);
 
-/* No listing and no report is longer than the first, no accepted record than the third, and no file moved to another kind
- * than the fourth. The second is the length of all pages of a file of 500 records. */
+/* No listing and no report is longer than the first, no accepted record than the third, and no moved file than the fourth. The
+ * second is the length of all pages of a file of 500 records. */
 #define FOREST_MOST_TEXT 81551
 #define FOREST_MOST_PAGES 33085
 #define FOREST_MOST_RECORD 258

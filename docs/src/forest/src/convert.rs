@@ -20,8 +20,8 @@ pub fn convert(file: &[u8], list: &[u8], target: u8, out: &mut [u8]) -> Result<u
     }
 }
 
-/// The tag of the first field of a site that was read whose value a kind has no place for. A site of kind 52 is read as one at
-/// 8 °C, and above 255 there are species in kind 54 alone.
+/// The tag of the first field of a site whose value a kind cannot hold. A site of kind 52 was read as one at 8 °C, and above 255
+/// there are species in kind 54 alone.
 fn misfit(site: &Site, kind: Kind) -> Option<u8> {
     let above_255 = site.stand().iter().any(|entry| entry.species > 255);
     if above_255 && kind != Kind::Tag54 {
@@ -33,7 +33,7 @@ fn misfit(site: &Site, kind: Kind) -> Option<u8> {
     }
 }
 
-/// Where the field with a tag stands in a record that was read and starts here: its fields are 01, 02 and so on.
+/// Where the field with a tag stands in a record that passes and starts here: its fields are 01, 02 and so on.
 fn field_at(file: &[u8], start: usize, tag: u8) -> usize {
     (0x01..tag).fold(start + 3, |at, _| {
         at + 3 + usize::from(u16::from_be_bytes([file[at + 1], file[at + 2]]))
