@@ -1,15 +1,15 @@
 /*
  * Forest site instrument: critical loads, exceedances and verdict.
  *
- * A result is one number. Below 2^32 it is a count: of bytes for forest_list, forest_pages, forest_report and
- * forest_rewrite, of numbers for forest_loads, forest_level, forest_judge and forest_sample, and 0 for forest_check. From
+ * A result is one number. Below 2^32 it is a count: of bytes for forest_list, forest_pages, forest_report, forest_rewrite and
+ * forest_convert, of numbers for forest_loads, forest_level, forest_judge and forest_sample, and 0 for forest_check. From
  * 2^32 on it is a refusal: rule number * 2^32 + offset. A refusal alters no byte of the lent buffer; a success alters the
  * first `count` elements alone.
  *
  *   Refusal                                                                            Offset
  *    1  no bytes                                                                       0
  *    2  outer field cut: under 3 bytes, or length above 255 or beyond the end          the outer field
- *    3  outer tag other than 52, 53 and 54 (hexadecimal)                               the outer field
+ *    3  outer tag other than 52, 53 and 54 (hexadecimal)                               the outer field; 0 for a target
  *    4  bytes after the 500th record, or after a single one                            the first byte left over
  *    5  inner field cut: under 3 bytes, or length beyond its record                    the field
  *    6  another tag than the next due, none left, or bytes after the last field due    the byte, or the record's end
@@ -23,10 +23,12 @@
  *   14  S or N of the year above 65,535                                                12
  *   15  entry of the species list broken, not rising, or of a number not 256 to 1023   the entry, in the list
  *   16  species that the species list lacks                                            the stand's field
+ *   17  species, or temperature, that the target's kind cannot hold                    the first such field
  *
  * Offsets count bytes from the start of the file or record; of a site value each is 0; 8 for a month's rain is at the month,
- * and 15 is counted from the start of the list. 15 comes ahead of all others. Then the first fault from the left is given,
- * 16 after 10 of the same stand, 14 after all months, and 11 only where there is no other.
+ * and 15 is counted from the start of the list. 15 comes ahead of all others but 3 for a target. Then the first fault from
+ * the left is given, 16 after 10 of the same stand, 14 after all months, 17 after all faults of the file, and 11 only where
+ * there is no other.
  *
  * A field is a tag of one byte, a length of two bytes, high byte first, and a value. A record is an outer field whose value
  * is the fields of its kind, each once, rising. The kind is the outer tag: 52 has the fields 01 to 0F, 53 those and field 10,
@@ -107,6 +109,17 @@ uint64_t forest_report(const uint8_t *file, size_t file_len, const uint8_t *list
 uint64_t forest_rewrite(const uint8_t *record, size_t record_len, const uint8_t *list, size_t list_len, uint8_t *out,
                         size_t out_len);
 
+/* The records of a file, of one kind or of several, all moved to the kind with the outer tag `target`, 52, 53 or 54
+ * (hexadecimal). Up from 52 the temperature is 8 degrees Celsius; into 54 a species gains a high byte of zero. A record goes
+ * down to 52 only at 8 degrees, and out of 54 only where all its species are below 256; one of the target's kind stays as it
+ * is. A record keeps its loads and its mark, and a file of one kind, moved and then moved back, its bytes.
+ * Refused are, in this order: a target other than the three (3, at 0); the list (15); the file, as by forest_list (1 to 10
+ * and 16); the first field from the left that cannot go down, 07 ahead of 10 in a record (17); a buffer shorter than the
+ * moved file (11). A moved record has at most 104 bytes: a buffer of FOREST_MOST_CONVERTED bytes is always long enough.
+ * Stack: @STACK@ KiB. */
+uint64_t forest_convert(const uint8_t *file, size_t file_len, const uint8_t *list, size_t list_len, uint8_t target,
+                        uint8_t *out, size_t out_len);
+
 /* The check of a list and a site value: 0, or the first rule they break. Stack: 1 KiB. */
 uint64_t forest_check(const uint8_t *site, size_t site_len, const uint8_t *list, size_t list_len);
 
@@ -131,11 +144,12 @@ uint64_t forest_judge(const uint8_t *site, size_t site_len, const uint8_t *list,
 uint64_t forest_sample(const uint8_t *site, size_t site_len, const uint8_t *list, size_t list_len, const uint8_t *months,
                        size_t months_len, uint64_t *out, size_t out_len);
 
-/* No listing and no report is longer than the first, and no accepted record than the third. The second is the length of all
- * pages of a file of 500 records. */
+/* No listing and no report is longer than the first, no accepted record than the third, and no moved file than the fourth. The
+ * second is the length of all pages of a file of 500 records. */
 #define FOREST_MOST_TEXT 81551
 #define FOREST_MOST_PAGES 33085
 #define FOREST_MOST_RECORD 258
+#define FOREST_MOST_CONVERTED 52000
 
 #ifdef __cplusplus
 }

@@ -28,6 +28,17 @@ static const uint8_t overseas[161] = {
     15, 0, 4, 0x01, 0xF4, 0x02, 0xBC, 16, 0, 1, 13,
     0x52, 0, 75, 1, 0, 2, 'B', '2', FIELDS_02_TO_06, FIELDS_07_TO_0E, 15, 0, 4, 0x00, 0xC8, 0x00, 0xF0,
 };
+/* A1 and B2 in kind 53, and in kind 54, at 8 degrees. */
+static const uint8_t as_53[164] = {
+    0x53, 0, 79, 1, 0, 2, 'A', '1', FIELDS_02_TO_06, FIELDS_07_TO_0E, 15, 0, 4, 0x01, 0xF4, 0x02, 0xBC, 16, 0, 1, 13,
+    0x53, 0, 79, 1, 0, 2, 'B', '2', FIELDS_02_TO_06, FIELDS_07_TO_0E, 15, 0, 4, 0x00, 0xC8, 0x00, 0xF0, 16, 0, 1, 13,
+};
+static const uint8_t as_54[166] = {
+    0x54, 0, 80, 1, 0, 2, 'A', '1', FIELDS_02_TO_06, 7, 0, 5, 0, 0, 100, 0x07, 0xD0, FIELDS_08_TO_0E,
+    15, 0, 4, 0x01, 0xF4, 0x02, 0xBC, 16, 0, 1, 13,
+    0x54, 0, 80, 1, 0, 2, 'B', '2', FIELDS_02_TO_06, 7, 0, 5, 0, 0, 100, 0x07, 0xD0, FIELDS_08_TO_0E,
+    15, 0, 4, 0x00, 0xC8, 0x00, 0xF0, 16, 0, 1, 13,
+};
 /* Species 256, 513 and 1023 with their Ca, Mg, K and N: 5389 1980 1660 7782 as pine; 10000 2000 3000 12000; 65535 each. */
 static const uint8_t list[30] = {
     1, 0, 0x15, 0x0D, 0x07, 0xBC, 0x06, 0x7C, 0x1E, 0x66,
@@ -38,10 +49,13 @@ static const uint8_t list[30] = {
 #define NONE NULL, 0
 enum { RECORD = 78, RECORD_53 = 82, RECORD_54 = 83, SITE = 50, SITE_53 = 51, SITE_54 = 55, STAND = 30, ENTRY = 10 };
 enum { MONTH = 17, MONTHS = 204, ROOM = 200, SPARE = 0xA5 };
+/* In A1: the species of kind 54, and field 10. */
+enum { SPECIES_54 = STAND + 3, TEMPERATURE_53 = RECORD_53 - 4, TEMPERATURE_54 = RECORD_54 - 4 };
 
 /* The longest listing and record that documents 01 and 02 let be are within what the header gives; 500 sites are on 9 pages. */
 _Static_assert(FOREST_MOST_TEXT >= 51 + 500 * (8 + 7 * 8 + 7 + 1) && FOREST_MOST_RECORD >= 104, "forest.h: too short");
 _Static_assert(FOREST_MOST_PAGES == (9 + 500) * (64 + 1), "forest.h: all pages");
+_Static_assert(FOREST_MOST_CONVERTED == 500 * 104, "forest.h: a full file of the longest records");
 
 static const uint8_t site[SITE] = {
     'A', '1', 0, 0, 0, 0, 0, 0, 2, 1, 10, 65, 50, 1, 0, 200, 0, 100, 0x07, 0xD0, 0, 0, 0, 0, 0, 0, 0, 0, 0, 0, 0, 0, 1,
@@ -218,6 +232,82 @@ static void overseas_calls(const uint64_t *judged) {
     expect("a list up to 1024", forest_check(site, SITE, BAD) == refusal(15, 2 * ENTRY));
 }
 
+/* A file in the lent buffer, all of it or none. */
+static void expect_moved(const char *what, const uint8_t *from, size_t length, uint8_t target, const uint8_t *to,
+                         size_t moved) {
+    expect_text(what, forest_convert(from, length, LENT, target, text, moved), moved, to, moved);
+    expect_text(what, forest_convert(from, length, LENT, target, text, ROOM), moved, to, moved);
+    expect_text(what, forest_convert(from, length, LENT, target, text, moved - 1), refusal(11, 0), "", 0);
+    expect_text(what, forest_convert(from, length, NONE, target, NULL, 0), refusal(11, 0), "", 0);
+}
+
+/* A refusal, with room and without. */
+static void expect_stuck(const char *what, const uint8_t *from, size_t length, uint8_t target, uint64_t rule, uint64_t offset) {
+    expect_text(what, forest_convert(from, length, LENT, target, text, ROOM), refusal(rule, offset), "", 0);
+    expect_text(what, forest_convert(from, length, LENT, target, NULL, 0), refusal(rule, offset), "", 0);
+}
+
+/* Conversion, and the refusal 17. */
+static void convert_calls(void) {
+    expect_moved("52 to 53", file, sizeof file, 0x53, as_53, sizeof as_53);
+    expect_moved("52 to 54", file, sizeof file, 0x54, as_54, sizeof as_54);
+    expect_moved("53 to 54", as_53, sizeof as_53, 0x54, as_54, sizeof as_54);
+    expect_moved("54 to 53", as_54, sizeof as_54, 0x53, as_53, sizeof as_53);
+    expect_moved("53 to 52", as_53, sizeof as_53, 0x52, file, sizeof file);
+    expect_moved("54 to 52", as_54, sizeof as_54, 0x52, file, sizeof file);
+    expect_moved("52 to 52", file, sizeof file, 0x52, file, sizeof file);
+    expect_moved("53 to 53", as_53, sizeof as_53, 0x53, as_53, sizeof as_53);
+    expect_moved("54 to 54", as_54, sizeof as_54, 0x54, as_54, sizeof as_54);
+
+    /* Files of two kinds: a temperature stays with its record, and so does a species of the list. */
+    uint8_t cold_53[sizeof as_53], cold_54[sizeof as_54], listed[sizeof as_54];
+    memcpy(cold_53, as_53, sizeof as_53);
+    memcpy(cold_54, as_54, sizeof as_54);
+    memcpy(listed, as_54, sizeof as_54);
+    cold_53[TEMPERATURE_53 + 3] = cold_54[TEMPERATURE_54 + 3] = 0;
+    listed[SPECIES_54] = 2, listed[SPECIES_54 + 1] = 1;
+    expect_moved("both kinds to 53", mixed, sizeof mixed, 0x53, cold_53, sizeof cold_53);
+    expect_moved("both kinds to 54", mixed, sizeof mixed, 0x54, cold_54, sizeof cold_54);
+    expect_moved("back from 54", cold_54, sizeof cold_54, 0x53, cold_53, sizeof cold_53);
+    expect_text("species 513 to 54", forest_convert(overseas, sizeof overseas, LENT, 0x54, text, ROOM), sizeof listed, listed,
+                sizeof listed);
+
+    /* 17: at field 10, at field 07, at field 07 where 10 is in the way too, at the first of two records, at the second. */
+    expect_stuck("-5 degrees to 52", mixed, sizeof mixed, 0x52, 17, TEMPERATURE_53);
+    expect_stuck("-5 degrees from 54 to 52", cold_54, sizeof cold_54, 0x52, 17, TEMPERATURE_54);
+    expect_stuck("species 513 to 52", overseas, sizeof overseas, 0x52, 17, STAND);
+    expect_stuck("species 513 to 53", overseas, sizeof overseas, 0x53, 17, STAND);
+    listed[TEMPERATURE_54 + 3] = 12;
+    expect_stuck("species 513 at 7 degrees", listed, sizeof listed, 0x52, 17, STAND);
+    cold_53[RECORD_53 + TEMPERATURE_53 + 3] = 14;
+    expect_stuck("A1 and B2 to 52", cold_53, sizeof cold_53, 0x52, 17, TEMPERATURE_53);
+    cold_53[TEMPERATURE_53 + 3] = 13;
+    expect_stuck("B2 at 9 degrees", cold_53, sizeof cold_53, 0x52, 17, RECORD_53 + TEMPERATURE_53);
+
+    /* Ahead of 17: every fault of the file, and the list. */
+    expect_stuck("17 after 2", mixed, sizeof mixed - 1, 0x52, 2, RECORD_53);
+    listed[RECORD_54] = 0x55;
+    expect_stuck("17 after 3", listed, sizeof listed, 0x53, 3, RECORD_54);
+    listed[TEMPERATURE_54 + 3] = 26;
+    expect_stuck("17 after 8", listed, sizeof listed, 0x53, 8, TEMPERATURE_54);
+    listed[SPECIES_54 + 1] = 2;
+    expect_stuck("17 after 16", listed, sizeof listed, 0x53, 16, STAND);
+    expect_stuck("nothing to 52", NULL, 0, 0x52, 1, 0);
+    expect_text("15 ahead of 17", forest_convert(mixed, sizeof mixed, list, sizeof list - 1, 0x52, text, ROOM),
+                refusal(15, 2 * ENTRY), "", 0);
+    expect_text("15 of a target", forest_convert(NULL, 0, list, sizeof list - 1, 0x54, NULL, 0), refusal(15, 2 * ENTRY), "", 0);
+
+    /* 3 ahead of all. */
+    static const uint8_t others[] = {0, 52, 53, 54, 0x51, 0x55, 0xFF};
+    for (size_t i = 0; i < sizeof others; i++) {
+        expect_stuck("another target", file, sizeof file, others[i], 3, 0);
+        expect_stuck("another target, 17", mixed, sizeof mixed, others[i], 3, 0);
+        expect_stuck("another target, nothing", NULL, 0, others[i], 3, 0);
+        expect_text("another target, 15", forest_convert(NULL, 0, list, sizeof list - 1, others[i], NULL, 0), refusal(3, 0), "",
+                    0);
+    }
+}
+
 int main(void) {
     static const uint64_t sampled[10] = {500, 700, 735, 205, 1021, 249, 2, 221, 451, 1}, *const judged = sampled + 2;
     const size_t length = sizeof listing - 1, page_length = sizeof page - 1;
@@ -344,6 +434,7 @@ int main(void) {
     expect("50 bytes, at no temperature", forest_check(site_53, SITE, LENT) == 0);
 
     overseas_calls(judged);
+    convert_calls();
 
     printf("%u passed, %u failed\n", passed, failed);
     return failed > 0;

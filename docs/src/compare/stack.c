@@ -1,7 +1,7 @@
 /*
  * Measures the stack that each call of forest.h takes. A call runs on a stack of its own, painted before, with inputs
  * that lead deepest: the greatest values of each kind, a refusal, a buffer too short, and nothing, by null pointers; and with a
- * full species list, a bad one and none.
+ * full species list, a bad one and none. A file is moved to every kind, and to a tag of none.
  */
 #include "forest.h"
 
@@ -9,7 +9,7 @@
 #include <string.h>
 #include <ucontext.h>
 
-enum { PAINT = 0xA5, RECORD = 104, FULL = 500 * RECORD, TEXT = 64000, SITE = 55, MONTHS = 204, INPUTS = 6, LISTS = 3 };
+enum { PAINT = 0xA5, RECORD = 104, FULL = 500 * RECORD, TEXT = 64000, SITE = 55, MONTHS = 204, LISTS = 3 };
 /* Kinds 52 and 53 have four bytes to an entry, and kind 52 has no field 10, and no temperature byte. */
 enum { RECORD_53 = RECORD - 4, FULL_53 = 500 * RECORD_53, SITE_53 = SITE - 4 };
 enum { RECORD_52 = RECORD_53 - 4, FULL_52 = 500 * RECORD_52, SITE_52 = SITE_53 - 1 };
@@ -17,6 +17,7 @@ enum { FIRST = 256, LAST = 1023, ENTRY = 10, LIST = (LAST - FIRST + 1) * ENTRY }
 
 #define NAME 'Z', 'Z', 'Z', 'Z', 'Z', 'Z', 'Z', 'Z'
 #define STAND 5, 25, 0x4E, 0x20, 6, 25, 0x4E, 0x20, 7, 25, 0x4E, 0x20, 8, 25, 0x4E, 0x20
+#define WIDE 0, 5, 25, 0x4E, 0x20, 0, 6, 25, 0x4E, 0x20, 0, 7, 25, 0x4E, 0x20, 0, 8, 25, 0x4E, 0x20
 /* Species 256, 261, 1022 and 1023. */
 #define LISTED 1, 0, 25, 0x4E, 0x20, 1, 5, 25, 0x4E, 0x20, 3, 0xFE, 25, 0x4E, 0x20, 3, 0xFF, 25, 0x4E, 0x20
 #define FIELDS_01_TO_06                                                                                   \
@@ -29,6 +30,10 @@ enum { FIRST = 256, LAST = 1023, ENTRY = 10, LIST = (LAST - FIRST + 1) * ENTRY }
 static const uint8_t record[RECORD] = {
     0x54, 0, 101, FIELDS_01_TO_06, 0x07, 0, 20, LISTED, FIELDS_08_TO_0F, 0x10, 0, 1, 25,
 };
+/* One that can be moved to every kind. */
+static const uint8_t movable[RECORD] = {
+    0x54, 0, 101, FIELDS_01_TO_06, 0x07, 0, 20, WIDE, FIELDS_08_TO_0F, 0x10, 0, 1, 13,
+};
 static const uint8_t record_53[RECORD_53] = {
     0x53, 0, 97, FIELDS_01_TO_06, 0x07, 0, 16, STAND, FIELDS_08_TO_0F, 0x10, 0, 1, 25,
 };
@@ -38,22 +43,26 @@ static const uint8_t site[SITE] = {
     0x13, 0x88, 0x4E, 0x20, 0x27, 0x10, 0x13, 0x88, 0x03, 0xE8, 0xFF, 0xFF, 0xFF, 0xFF, 25, 1, 2, 3, 3,
 };
 static const uint8_t bad_site[SITE], months[MONTHS], bad_months[MONTHS] = {0xFF};
-static uint8_t file[FULL + 1], file_53[FULL_53], file_52[FULL_52], full_list[LIST], text[TEXT];
+static uint8_t file[FULL + 1], movable_file[FULL], file_53[FULL_53], file_52[FULL_52], full_list[LIST], text[TEXT];
 static uint64_t numbers[10];
 
 struct input {
     const uint8_t *bytes;
     size_t length, room;
 };
-static const struct input files[INPUTS] = {
+static const struct input files[] = {
     {file, FULL, TEXT}, {file_53, FULL_53, TEXT}, {file_52, FULL_52, TEXT},
     {file, FULL + 1, TEXT}, {file, FULL, 0}, {NULL, 0, 0},
 };
-static const struct input records[INPUTS] = {
+static const struct input records[] = {
     {file, RECORD, TEXT}, {file_53, RECORD_53, TEXT}, {file_52, RECORD_52, TEXT},
     {file, RECORD + 1, TEXT}, {file, RECORD, 0}, {NULL, 0, 0},
 };
-static const struct input sites[INPUTS] = {
+static const struct input moves[] = {
+    {file, FULL, TEXT}, {movable_file, FULL, TEXT}, {file_53, FULL_53, TEXT}, {file_52, FULL_52, TEXT},
+    {file, FULL + 1, TEXT}, {movable_file, FULL, 0}, {NULL, 0, 0},
+};
+static const struct input sites[] = {
     {site, SITE, 10}, {site, SITE_53, 10}, {site, SITE_52, 10}, {bad_site, SITE, 10}, {site, SITE, 0}, {NULL, 0, 0},
 };
 struct species {
@@ -72,6 +81,11 @@ static void list(void) { forest_list(in.bytes, in.length, LENT, bytes_out(), in.
 static void pages(void) { forest_pages(in.bytes, in.length, LENT, bytes_out(), in.room); }
 static void report(void) { forest_report(in.bytes, in.length, LENT, bytes_out(), in.room); }
 static void rewrite(void) { forest_rewrite(in.bytes, in.length, LENT, bytes_out(), in.room); }
+static void convert(void) {
+    static const uint8_t targets[] = {0x52, 0x53, 0x54, 0x55};
+    for (size_t i = 0; i < sizeof targets; i++)
+        forest_convert(in.bytes, in.length, LENT, targets[i], bytes_out(), in.room);
+}
 static void check(void) { forest_check(in.bytes, in.length, LENT); }
 static void loads(void) { forest_loads(in.bytes, in.length, LENT, numbers_out(), in.room); }
 static void level(void) { forest_level(in.bytes, in.length, LENT, numbers_out(), in.room); }
@@ -99,9 +113,9 @@ static size_t stack_of(void (*call)(void)) {
     return sizeof stack - untouched;
 }
 
-static void measure(const char *name, void (*call)(void), const struct input inputs[INPUTS]) {
+static void measure(const char *name, void (*call)(void), const struct input *inputs, size_t count) {
     size_t most = 0;
-    for (int i = 0; i < INPUTS * LISTS; i++) {
+    for (size_t i = 0; i < count * LISTS; i++) {
         in = inputs[i / LISTS];
         lent = lists[i % LISTS];
         size_t took = stack_of(call);
@@ -111,9 +125,13 @@ static void measure(const char *name, void (*call)(void), const struct input inp
     printf("%-14s %7zu bytes, %3zu KiB\n", name, most, (most + 1023) / 1024);
 }
 
+#define MEASURE(call, inputs) measure("forest_" #call, call, inputs, sizeof inputs / sizeof *inputs)
+
 int main(void) {
-    for (size_t at = 0; at < FULL; at += RECORD)
+    for (size_t at = 0; at < FULL; at += RECORD) {
         memcpy(file + at, record, RECORD);
+        memcpy(movable_file + at, movable, RECORD);
+    }
     for (size_t at = 0; at < FULL_53; at += RECORD_53)
         memcpy(file_53 + at, record_53, RECORD_53);
     for (size_t at = 0; at < FULL_52; at += RECORD_52) {
@@ -125,13 +143,14 @@ int main(void) {
         uint8_t *entry = full_list + (number - FIRST) * ENTRY;
         entry[0] = number >> 8, entry[1] = number & 0xFF;
     }
-    measure("forest_list", list, files);
-    measure("forest_pages", pages, files);
-    measure("forest_report", report, files);
-    measure("forest_rewrite", rewrite, records);
-    measure("forest_check", check, sites);
-    measure("forest_loads", loads, sites);
-    measure("forest_level", level, sites);
-    measure("forest_judge", judge, sites);
-    measure("forest_sample", sample, sites);
+    MEASURE(list, files);
+    MEASURE(pages, files);
+    MEASURE(report, files);
+    MEASURE(rewrite, records);
+    MEASURE(convert, moves);
+    MEASURE(check, sites);
+    MEASURE(loads, sites);
+    MEASURE(level, sites);
+    MEASURE(judge, sites);
+    MEASURE(sample, sites);
 }

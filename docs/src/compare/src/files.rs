@@ -1,9 +1,10 @@
 //! Records and files, valid and damaged. The list is that which holds their species.
 
+use crate::lists;
 use crate::random::Random;
 use crate::sites::{self, KINDS};
 use forest::Kind::{Tag52, Tag53, Tag54};
-use forest::{Kind, Site};
+use forest::{Kind, Site, EIGHT_DEGREES};
 
 /// A field whose length need not be that of its value.
 #[derive(Clone)]
@@ -82,6 +83,12 @@ pub fn good_record(random: &mut Random, list: &[u8]) -> Vec<u8> {
     record_of(&sites::good(random, list))
 }
 
+/// One in so many of a file's records is at any temperature, or of any species; the others are at 8 °C, or of the table's
+/// species, so that they can be moved down.
+const EVERY: usize = 1;
+const FEW: usize = 30;
+const NONE: usize = usize::MAX;
+
 /// Records of one kind or of several.
 pub fn good_records(random: &mut Random, count: usize, list: &[u8]) -> Vec<u8> {
     let kinds = random.pick(&[
@@ -94,11 +101,42 @@ pub fn good_records(random: &mut Random, count: usize, list: &[u8]) -> Vec<u8> {
         &[Tag53, Tag54],
         &KINDS,
     ]);
+    let any = [(); 2].map(|()| random.pick(&[EVERY, EVERY, FEW, NONE]));
+    records_of(random, count, kinds, any, list)
+}
+
+/// Records of these kinds, one in so many at any temperature, and one in so many of any species.
+fn records_of(
+    random: &mut Random,
+    count: usize,
+    kinds: &[Kind],
+    [any_temperature, any_species]: [usize; 2],
+    list: &[u8],
+) -> Vec<u8> {
     let mut record = || {
         let (kind, entries) = (random.pick(kinds), random.between(1, 4) as u8);
-        record_of(&sites::good_of(random, kind, entries, list))
+        let list = if random.one_in(any_species) {
+            list
+        } else {
+            &[]
+        };
+        let mut site = sites::good_of(random, kind, entries, list);
+        if !random.one_in(any_temperature) {
+            sites::make_mild(random, &mut site, list);
+        }
+        record_of(&site)
     };
     (0..count).flat_map(|_| record()).collect()
+}
+
+/// A record of kind 53 or 54 that cannot be moved to 52, nor, of kind 54 and with a list, to 53.
+fn stuck_record(random: &mut Random, kind: Kind, list: &[u8]) -> Vec<u8> {
+    let mut site = sites::good_of(random, kind, 4, list);
+    site.temperature = EIGHT_DEGREES + 1;
+    if let (Tag54, Some(last)) = (kind, lists::numbers(list).last()) {
+        site.stand[3].species = last;
+    }
+    record_of(&site)
 }
 
 /// A record damaged in its values, its fields, its outer tag or its bytes.
@@ -332,11 +370,17 @@ pub fn border_files(random: &mut Random, list: &[u8]) -> Vec<Vec<u8>> {
     whole.resize(255, 0x10);
     let whole = outer(record[0], whole);
     let long_name = outer(0x54, Field::new(0x01, vec![b'A'; 252]).bytes());
+    let [stuck_53, stuck_54] = [Tag53, Tag54].map(|kind| {
+        let movable = records_of(random, 499, &KINDS, [NONE, NONE], list);
+        [movable, stuck_record(random, kind, list)].concat()
+    });
     vec![
         good_records(random, 500, list),
         good_records(random, 501, list),
         longest_records(random, 500, list),
         longest_records(random, 501, list),
+        stuck_53,
+        stuck_54,
         [&longest_records(random, 500, list)[..], &[0x52]].concat(),
         [&longest_records(random, 500, list)[..], &[0x54]].concat(),
         [&longest_records(random, 499, list)[..], &long_name].concat(),

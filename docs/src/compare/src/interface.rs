@@ -1,4 +1,4 @@
-//! The nine calls of `docs/forest.h`, by the static library and by the independent implementation.
+//! The ten calls of `docs/forest.h`, by the static library and by the independent implementation.
 
 use forest::{Judgement, Refusal, Sampled, Site, Verdict};
 
@@ -67,6 +67,23 @@ pub const REWRITE: Call<u8> = Call {
         )
     },
     reference: |[record, list], out| result(forest::rewrite(record, list, out)),
+};
+
+/// A file with its list, and the byte of the target.
+pub const CONVERT: Call<u8, 3> = Call {
+    name: "forest_convert",
+    library: |[file, list, target], out| unsafe {
+        c::forest_convert(
+            file.as_ptr(),
+            file.len(),
+            list.as_ptr(),
+            list.len(),
+            target[0],
+            out.as_mut_ptr(),
+            out.len(),
+        )
+    },
+    reference: |[file, list, target], out| result(forest::convert(file, list, target[0], out)),
 };
 
 /// The check takes no buffer.
@@ -215,6 +232,15 @@ mod c {
             record_len: usize,
             list: *const u8,
             list_len: usize,
+            out: *mut u8,
+            out_len: usize,
+        ) -> u64;
+        pub fn forest_convert(
+            file: *const u8,
+            file_len: usize,
+            list: *const u8,
+            list_len: usize,
+            target: u8,
             out: *mut u8,
             out_len: usize,
         ) -> u64;

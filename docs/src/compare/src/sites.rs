@@ -2,7 +2,7 @@
 
 use crate::lists;
 use crate::random::Random;
-use forest::{terms, Entry, Kind, Site};
+use forest::{terms, Entry, Kind, Site, EIGHT_DEGREES};
 
 /// A number in its range, often at or near an end.
 pub(crate) fn ranged(random: &mut Random, low: i64, high: i64) -> i64 {
@@ -59,6 +59,12 @@ pub fn good_of(random: &mut Random, kind: Kind, entries: u8, list: &[u8]) -> Sit
     };
     set_pair(random, &mut site, list);
     site
+}
+
+/// Moves a good site to 8 °C, with a pair of any region there.
+pub fn make_mild(random: &mut Random, site: &mut Site, list: &[u8]) {
+    site.temperature = EIGHT_DEGREES;
+    set_pair(random, site, list);
 }
 
 fn name(random: &mut Random, length: u8) -> [u8; 8] {

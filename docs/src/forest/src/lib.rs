@@ -1,9 +1,10 @@
 //! Critical loads, exceedances and verdicts of forest sites, as document 01 and E2 of document 02 state them, with the pages of E1,
-//! the rain sampler of E3, the hydrogen search of E4, the temperature of E5 and the species list of E6. Every call that takes a
-//! file, a record or a site takes the bytes of the list after it.
+//! the rain sampler of E3, the hydrogen search of E4, the temperature of E5, the species list of E6 and the conversion of E7. Every
+//! call that takes a file, a record or a site takes the bytes of the list after it.
 //!
 //! Numbers are `i64` throughout, but for those of which t is worked out: the greatest product, Q × K × h³, is 3.75 × 10¹⁸.
 
+mod convert;
 mod judgement;
 mod level;
 mod listing;
@@ -17,6 +18,7 @@ mod temperature;
 mod terms;
 mod whole;
 
+pub use convert::convert;
 pub use judgement::{judge, Judgement, Verdict};
 pub use level::{level, search, Found};
 pub use listing::{list, report};

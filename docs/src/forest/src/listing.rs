@@ -22,7 +22,7 @@ fn listing(file: &[u8], list: &[u8]) -> Result<Vec<u8>, Refusal> {
     let mut lines = Vec::with_capacity(HEADER.len() + 1 + file.len());
     lines.extend_from_slice(HEADER.as_bytes());
     lines.push(b'\n');
-    each_record(file, list, MOST_RECORDS, |site, contents| {
+    each_record(file, list, MOST_RECORDS, |_, site, contents| {
         push_line(&mut lines, site.name(), &judge_checked(site, contents))
     })?;
     Ok(lines)

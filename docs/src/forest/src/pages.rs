@@ -37,7 +37,7 @@ const COLUMNS: [(Aligned, usize); 9] = [
 /// Writes the pages of a file of records, one after the other.
 pub fn pages(file: &[u8], list: &[u8], out: &mut [u8]) -> Result<usize, Refusal> {
     let mut sites = Vec::new();
-    each_record(file, list, MOST_RECORDS, |site, contents| {
+    each_record(file, list, MOST_RECORDS, |_, site, contents| {
         sites.push(site_line(site, contents))
     })?;
     let header = header_line();

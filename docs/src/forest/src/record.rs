@@ -5,17 +5,25 @@ use crate::species::{SpeciesList, StandContents};
 /// Reads a single record: a file of at most one.
 pub fn read_record(input: &[u8], list: &[u8]) -> Result<Site, Refusal> {
     let mut read = Site::default();
-    each_record(input, list, 1, |site, _| read = *site)?;
+    each_record(input, list, 1, |_, site, _| read = *site)?;
     Ok(read)
 }
 
 /// Writes the record of a site value, once it passes the checks.
 pub fn write_record(site: &Site, list: &[u8], out: &mut [u8]) -> Result<usize, Refusal> {
     check(site, list)?;
-    let mut fields = Vec::with_capacity(100);
+    let mut record = Vec::with_capacity(104);
+    push_record(&mut record, site);
+    lend(&record, out)
+}
+
+/// Appends the record of a site that passes the checks.
+pub(crate) fn push_record(records: &mut Vec<u8>, site: &Site) {
+    let start = records.len();
+    records.extend([site.kind as u8, 0, 0]);
     let mut field = |tag: u8, value: &[u8]| {
-        fields.extend([tag, 0, value.len() as u8]);
-        fields.extend(value);
+        records.extend([tag, 0, value.len() as u8]);
+        records.extend(value);
     };
     let stand: Vec<u8> = match site.kind {
         Kind::Tag54 => site.stand().iter().flat_map(five_bytes).collect(),
@@ -40,10 +48,7 @@ pub fn write_record(site: &Site, list: &[u8], out: &mut [u8]) -> Result<usize, R
     if site.kind != Kind::Tag52 {
         field(0x10, &[site.temperature]);
     }
-
-    let mut record = vec![site.kind as u8, 0, fields.len() as u8];
-    record.append(&mut fields);
-    lend(&record, out)
+    records[start + 2] = (records.len() - start - 3) as u8;
 }
 
 fn five_bytes(entry: &Entry) -> [u8; 5] {
@@ -62,12 +67,13 @@ pub fn rewrite(record: &[u8], list: &[u8], out: &mut [u8]) -> Result<usize, Refu
     write_record(&read_record(record, list)?, list, out)
 }
 
-/// Checks the list, then walks a file of at most `most` records from the left, up to its end or its first fault.
+/// Checks the list, then walks a file of at most `most` records from the left, up to its end or its first fault. Each record is
+/// taken with the place where it starts.
 pub(crate) fn each_record(
     file: &[u8],
     list: &[u8],
     most: usize,
-    mut take: impl FnMut(&Site, &StandContents),
+    mut take: impl FnMut(usize, &Site, &StandContents),
 ) -> Result<(), Refusal> {
     let list = SpeciesList::checked(list)?;
     if file.is_empty() {
@@ -87,7 +93,7 @@ pub(crate) fn each_record(
             return Err(Rule::OuterCut.at(at));
         }
         let (site, contents) = read_fields(kind, &rest[..length], at + 3, list)?;
-        take(&site, &contents);
+        take(at, &site, &contents);
         at += 3 + length;
         count += 1;
     }

@@ -19,6 +19,7 @@ pub enum Rule {
     Pair = 14,
     List = 15,
     Unlisted = 16,
+    Misfit = 17,
 }
 
 /// A broken rule, and where in the lent input.

@@ -1,10 +1,14 @@
 //! Each refusal of document 01 with its offset, and those of E5's field 10; every one leaves the buffer as it was. Those of E6
-//! stand in `species.rs`.
+//! stand in `species.rs`, that of E7 in `convert.rs`.
 
 mod common;
 
-use common::{a1, a1_with, bytes, outer, record, A1_FIELDS};
+use common::{a1, a1_with, bytes, outer, A1_FIELDS};
 use forest::{Kind, Refusal, Site};
+
+fn record(fields: &[&str]) -> Vec<u8> {
+    outer(0x52, fields)
+}
 
 /// The refusal of a file, as its number and offset. The pages give the same, and the single-record read for a file of one
 /// record.

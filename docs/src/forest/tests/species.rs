@@ -2,7 +2,7 @@
 
 mod common;
 
-use common::{a1, bytes, outer, A1_FIELDS};
+use common::{a1, a1_as, bytes, outer, A1_FIELDS};
 use forest::{
     check, check_list, judge, level, list, loads, pages, read_record, report, rewrite, sample,
     terms, write_record, Entry, Found, Kind, Loads, Month, Reading, Refusal, Site, Verdict,
@@ -32,8 +32,7 @@ fn of_numbers(numbers: impl IntoIterator<Item = u16>) -> Vec<u8> {
 
 /// A1 in kind 54 at 8 °C, with another field 07.
 fn a1_with_stand(field: &str) -> Vec<u8> {
-    let fields = [&A1_FIELDS[..6], &[field], &A1_FIELDS[7..], &["10 0001 0D"]].concat();
-    outer(0x54, &fields)
+    a1_as(0x54, &[field, "10 0001 0D"])
 }
 
 /// A1 in kind 54, its stand of one species.

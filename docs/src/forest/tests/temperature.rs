@@ -2,7 +2,7 @@
 
 mod common;
 
-use common::{a1, a1_with, bytes, outer, A1_FIELDS};
+use common::{a1, a1_as, a1_with, bytes};
 use forest::{
     judge, level, loads, read_record, sample, temperature_factor, terms, write_record, Entry,
     Found, Kind, Loads, Month, Reading, Site, Verdict,
@@ -16,8 +16,7 @@ const FACTORS: [i64; 26] = [
 
 /// A1's fields in a record of kind 53, with a temperature byte.
 fn a1_at(temperature: u8) -> Vec<u8> {
-    let field = format!("10 0001 {temperature:02X}");
-    outer(0x53, &[&A1_FIELDS[..], &[&field]].concat())
+    a1_as(0x53, &[&format!("10 0001 {temperature:02X}")])
 }
 
 fn a1_site_at(temperature: u8) -> Site {

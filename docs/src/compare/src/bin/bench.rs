@@ -1,6 +1,6 @@
-//! Times the listing of full files by the static library and by the independent implementation.
+//! Times the listing of full files, and the conversion of one, by the static library and by the independent implementation.
 
-use compare::interface::LIST;
+use compare::interface::{CONVERT, LIST};
 use compare::random::Random;
 use compare::{files, lists, sites};
 use forest::{terms, Kind, Site};
@@ -10,13 +10,13 @@ use std::time::Instant;
 const SEED: u64 = 20240611;
 const RECORDS: usize = 500;
 const BATCHES: usize = 2000;
-/// Listings in one batch.
+/// Calls in one batch.
 const REPEATS: usize = 8;
 
 fn main() {
     let mut random = Random::new(SEED);
     let any = |_: &Site| true;
-    time(
+    time_listing(
         "kind 52 with four entries, an empty list",
         &full_file(&mut random, Kind::Tag52, &[], any),
         &[],
@@ -24,15 +24,20 @@ fn main() {
     println!();
     let list = lists::all(&mut random);
     let listed = |site: &Site| site.stand[0].species > 8;
-    time(
+    time_listing(
         "kind 54 with four entries of a list, the list of 768 entries",
         &full_file(&mut random, Kind::Tag54, &list, listed),
         &list,
     );
+    println!();
+    time_conversion(
+        "kind 53 with four entries, to kind 54 and back, an empty list",
+        &full_file(&mut random, Kind::Tag53, &[], any).0,
+    );
 }
 
-/// Prints the times of both for a file of records of some kind, lent with a list.
-fn time(records: &str, (file, hydrogen_bound): &(Vec<u8>, usize), list: &[u8]) {
+/// Prints the times of the listing by both, for a file of records of some kind, lent with a list.
+fn time_listing(records: &str, (file, hydrogen_bound): &(Vec<u8>, usize), list: &[u8]) {
     let (mut ours, mut theirs) = (vec![0; 64_000], vec![0; 64_000]);
     let length = (LIST.reference)([file, list], &mut ours);
     assert_eq!(
@@ -47,20 +52,52 @@ fn time(records: &str, (file, hydrogen_bound): &(Vec<u8>, usize), list: &[u8]) {
         file.len(),
         RECORDS - hydrogen_bound
     );
+    let [library, reference] = black_box([LIST.library, LIST.reference]);
+    time(
+        || library(black_box([file, list]), &mut theirs),
+        || reference(black_box([file, list]), &mut ours),
+    );
+}
 
-    let time = |listing: fn([&[u8]; 2], &mut [u8]) -> u64, out: &mut [u8]| {
+/// Prints the times of both, for a file of kind 53 moved to kind 54 and back again.
+fn time_conversion(records: &str, file: &[u8]) {
+    let [library, reference] = black_box([CONVERT.library, CONVERT.reference]);
+    let [mut ours, mut theirs] = [(); 2].map(|()| [vec![0; 64_000], vec![0; 64_000]]);
+    for (convert, room) in [(library, &mut theirs), (reference, &mut ours)] {
+        let length = there_and_back(convert, file, room) as usize;
+        assert!(room[1][..length] == *file, "another file comes back");
+    }
+    println!("{RECORDS} records of {records}, {} bytes", file.len());
+    time(
+        || there_and_back(library, black_box(file), &mut theirs),
+        || there_and_back(reference, black_box(file), &mut ours),
+    );
+}
+
+fn there_and_back(
+    convert: fn([&[u8]; 3], &mut [u8]) -> u64,
+    file: &[u8],
+    [wide, narrow]: &mut [Vec<u8>; 2],
+) -> u64 {
+    let length = convert([file, &[], &[Kind::Tag54 as u8]], wide) as usize;
+    convert([&wide[..length], &[], &[Kind::Tag53 as u8]], narrow)
+}
+
+/// Prints the times of two calls that are made in turn, and their ratio.
+fn time(mut library: impl FnMut() -> u64, mut reference: impl FnMut() -> u64) {
+    let time = |call: &mut dyn FnMut() -> u64| {
         let start = Instant::now();
         for _ in 0..REPEATS {
-            black_box(listing(black_box([file, list]), out));
+            black_box(call());
         }
         start.elapsed().as_nanos() as f64 / (REPEATS * RECORDS) as f64
     };
-    let (mut library, mut reference) = (Vec::new(), Vec::new());
+    let (mut of_library, mut of_reference) = (Vec::new(), Vec::new());
     for _ in 0..BATCHES {
-        library.push(time(LIST.library, &mut theirs));
-        reference.push(time(LIST.reference, &mut ours));
+        of_library.push(time(&mut library));
+        of_reference.push(time(&mut reference));
     }
-    let (library, reference) = (Times::of(library), Times::of(reference));
+    let (library, reference) = (Times::of(of_library), Times::of(of_reference));
     println!("{:<16}{:>10}{:>10}", "ns a record", "median", "least");
     println!(
         "{:<16}{:>10.1}{:>10.1}",

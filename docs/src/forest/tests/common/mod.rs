@@ -39,17 +39,20 @@ pub fn outer(tag: u8, fields: &[&str]) -> Vec<u8> {
     record
 }
 
-pub fn record(fields: &[&str]) -> Vec<u8> {
-    outer(0x52, fields)
-}
-
-/// A1 with some of its fields replaced: those with the tags of the given ones.
-pub fn a1_with(changed: &[&str]) -> Vec<u8> {
+/// A1 with an outer tag and some of its fields replaced, those with the tags of the given ones; a given field 10 is its last.
+pub fn a1_as(tag: u8, changed: &[&str]) -> Vec<u8> {
     let fields = A1_FIELDS.map(|field| {
         let same = changed.iter().find(|other| other[..2] == field[..2]);
         *same.unwrap_or(&field)
     });
-    record(&fields)
+    let last = changed.iter().copied().find(|field| field[..2] == *"10");
+    let fields: Vec<&str> = fields.into_iter().chain(last).collect();
+    outer(tag, &fields)
+}
+
+/// As [`a1_as`], of kind 52.
+pub fn a1_with(changed: &[&str]) -> Vec<u8> {
+    a1_as(0x52, changed)
 }
 
 pub fn a1() -> Vec<u8> {

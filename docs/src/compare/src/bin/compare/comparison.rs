@@ -1,19 +1,22 @@
 //! One answer held against the other.
 
-use crate::kinds::By;
+use crate::kinds::{fields_in, By};
 use crate::species::With;
 use crate::tally::{Source, Tally, PAGE};
-use compare::interface::{Call, CHECK, JUDGE, LEVEL, LIST, LOADS, PAGES, REPORT, REWRITE, SAMPLE};
+use compare::interface::{
+    Call, CHECK, CONVERT, JUDGE, LEVEL, LIST, LOADS, PAGES, REPORT, REWRITE, SAMPLE,
+};
 use compare::lists;
 use compare::random::Random;
-use forest::Site;
+use compare::sites::KINDS;
+use forest::{Kind, Site};
 use std::fmt::LowerHex;
 use std::io::Write;
 use std::process::{Command, Stdio};
 use std::thread;
 use std::time::Duration;
 
-/// Longer than any listing, all pages of any file, and any record.
+/// Longer than any listing, all pages of any file, any file moved to another kind, and any record.
 const ROOM: usize = 64_000;
 
 pub struct Comparison {
@@ -34,7 +37,7 @@ impl Comparison {
         }
     }
 
-    /// A file with a list through `forest_list`, `forest_pages` and `forest_report`.
+    /// A file with a list through `forest_list`, `forest_pages`, `forest_report` and `forest_convert`.
     pub fn file(&mut self, random: &mut Random, file: &[u8], list: &[u8]) {
         let mut room = vec![0; ROOM];
         let full = (LIST.reference)([file, list], &mut room);
@@ -52,7 +55,11 @@ impl Comparison {
                 self.tally.species.short(With::File, result, with_all);
             }
         }
-        let records = records(&room, full);
+        let listing = match full >> 32 {
+            0 => room[..full as usize].to_vec(),
+            _ => Vec::new(),
+        };
+        let records = records(&listing);
         let full = (PAGES.reference)([file, list], &mut room);
         // 60 records have more bytes than a page: a file that may take two gets a buffer of one too.
         let one_page = (file.len() > PAGE).then_some(PAGE);
@@ -72,6 +79,83 @@ impl Comparison {
                 self.tally.answer(Source::Report, result);
             }
         }
+        for target in KINDS {
+            self.convert(random, file, list, &listing, target);
+        }
+        self.other_target(random, file, list);
+    }
+
+    /// A file with a list through `forest_convert`. `listing` is its listing, where it has one.
+    fn convert(
+        &mut self,
+        random: &mut Random,
+        file: &[u8],
+        list: &[u8],
+        listing: &[u8],
+        target: Kind,
+    ) {
+        let (source, target) = (Source::to(target), target as u8);
+        let inputs = [file, list, &[target]];
+        let in_room = |list: &[u8], room: usize| {
+            (CONVERT.reference)([file, list, &[target]], &mut vec![0; room])
+        };
+        let full = in_room(list, ROOM);
+        let with_all = || in_room(&self.all, ROOM);
+        self.tally
+            .species
+            .lent(With::Target, file, list, full, with_all);
+        self.tally.kinds.records(By::Convert, file, full);
+        for length in lengths(random, full) {
+            let result = self.call(random, &CONVERT, inputs, length);
+            self.tally.answer(source, result);
+            let converted = &mut self.tally.converted;
+            converted.answer(file, target, length, result, full);
+            // No record is shorter.
+            if length < 77 {
+                let with_all = || in_room(&self.all, 0);
+                self.tally.species.short(With::Target, result, with_all);
+            }
+        }
+        if full >> 32 == 0 {
+            self.tally.converted.moved(file, target);
+            let (_, moved) = self.outcome(random, &CONVERT, inputs, full as usize);
+            self.moved(random, file, list, listing, target, &moved);
+        }
+    }
+
+    /// What the library made of a file: it has the same listing and, moved back to the one kind of the file, the same bytes.
+    fn moved(
+        &mut self,
+        random: &mut Random,
+        file: &[u8],
+        list: &[u8],
+        listing: &[u8],
+        target: u8,
+        moved: &[u8],
+    ) {
+        let (_, lines) = self.outcome(random, &LIST, [moved, list], listing.len());
+        self.same("the listing of a file moved", &lines, listing);
+        self.tally.converted.same_listing(target);
+        if let Some(kind) = only_kind(file) {
+            let back = [moved, list, &[kind]];
+            let (_, again) = self.outcome(random, &CONVERT, back, file.len());
+            self.same("a file moved, and back again", &again, file);
+            self.tally.converted.back_again(kind, target);
+        }
+    }
+
+    /// A file with a list and a target other than the three through `forest_convert`.
+    fn other_target(&mut self, random: &mut Random, file: &[u8], list: &[u8]) {
+        let any = random.byte();
+        let target = random.pick(&[0x51, 0x55, 0, 52, 53, 54, 0x4D, 0xFF, any]);
+        if KINDS.iter().any(|&kind| kind as u8 == target) {
+            return;
+        }
+        let length = random.pick(&[0, 100, 2 * file.len()]);
+        self.call(random, &CONVERT, [file, list, &[target]], length);
+        let another = random.pick(&KINDS) as u8;
+        let behind = (CONVERT.reference)([file, list, &[another]], &mut vec![0; length]);
+        self.tally.converted.other(target, behind);
     }
 
     /// A single record with a list through `forest_rewrite`.
@@ -146,8 +230,7 @@ impl Comparison {
         self.tally.sampled(value, list, months, full, &numbers);
     }
 
-    /// Both sides of a call. Inputs and buffer are lent from the middle of random bytes, and all of the bytes around the
-    /// buffer are compared too. Returns the reference's result.
+    /// Both sides of a call. Returns the reference's result.
     fn call<T: Element, const INPUTS: usize>(
         &mut self,
         random: &mut Random,
@@ -155,6 +238,18 @@ impl Comparison {
         inputs: [&[u8]; INPUTS],
         length: usize,
     ) -> u64 {
+        self.outcome(random, call, inputs, length).0
+    }
+
+    /// Both sides of a call. Inputs and buffer are lent from the middle of random bytes, and all of the bytes around the
+    /// buffer are compared too. Returns the reference's result, and the buffer as the library leaves it.
+    fn outcome<T: Element, const INPUTS: usize>(
+        &mut self,
+        random: &mut Random,
+        call: &Call<T, INPUTS>,
+        inputs: [&[u8]; INPUTS],
+        length: usize,
+    ) -> (u64, Vec<T>) {
         let before = random.between(1, 16) as usize;
         let mut ours: Vec<T> = T::random(random, before + length + 16);
         let mut theirs = ours.clone();
@@ -167,7 +262,7 @@ impl Comparison {
         let within = |around: &'_ Vec<u8>| before..around.len() - 16;
         let inputs = around.each_ref().map(|around| &around[within(around)]);
         let library = (call.library)(inputs, &mut theirs[lent.clone()]);
-        let reference = (call.reference)(inputs, &mut ours[lent]);
+        let reference = (call.reference)(inputs, &mut ours[lent.clone()]);
         if library == reference && theirs == ours {
             self.passed += 1;
         } else {
@@ -191,7 +286,20 @@ impl Comparison {
                 );
             });
         }
-        reference
+        (reference, theirs[lent].to_vec())
+    }
+
+    /// Bytes of the library that are known.
+    fn same(&mut self, name: &str, bytes: &[u8], expected: &[u8]) {
+        if bytes == expected {
+            self.passed += 1;
+        } else {
+            self.mismatch(|| {
+                println!("{name}");
+                println!("library    {}", hex(bytes));
+                println!("expected   {}", hex(expected));
+            });
+        }
     }
 
     /// A file through the program, which lends an empty list: all that it prints. With `pieces` the file is written bit by bit.
@@ -250,12 +358,15 @@ impl Comparison {
 }
 
 /// How many records a file has by the lines of its listing; 0 where it is refused.
-fn records(room: &[u8], full: u64) -> usize {
-    if full >> 32 > 0 {
-        return 0;
-    }
-    let listing = &room[..full as usize];
-    listing.iter().filter(|&&byte| byte == b'\n').count() - 1
+fn records(listing: &[u8]) -> usize {
+    let lines = listing.iter().filter(|&&byte| byte == b'\n').count();
+    lines.saturating_sub(1)
+}
+
+/// The tag of the records of an accepted file, where all have the same.
+fn only_kind(file: &[u8]) -> Option<u8> {
+    let same = |(_, record): (usize, &[u8])| record[0] == file[0];
+    fields_in(file, 0, file.len()).all(same).then(|| file[0])
 }
 
 /// Lengths of the buffer to lend: the exact one, and one that is shorter, longer or empty.

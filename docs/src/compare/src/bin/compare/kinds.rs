@@ -12,6 +12,7 @@ pub const KIND_54: u8 = Kind::Tag54 as u8;
 pub enum By {
     Rewrite,
     List,
+    Convert,
     Judge,
 }
 
@@ -58,7 +59,7 @@ const VALUES: [&str; 10] = [
 ];
 
 /// Accepted files of several records, by which of the kinds 52, 53 and 54 they have.
-const FILES: [&str; 7] = [
+pub const FILES: [&str; 7] = [
     "kind 52 alone",
     "kind 53 alone",
     "kinds 52 and 53",
@@ -70,12 +71,12 @@ const FILES: [&str; 7] = [
 
 #[derive(Default)]
 pub struct Kinds {
-    /// Accepted records and judged site values: by rewrite, list and judge.
-    kinds: [[u64; 3]; 3],
+    /// Accepted records and judged site values: by rewrite, list, convert and judge.
+    kinds: [[u64; 4]; 3],
     /// Of kinds 53 and 54.
-    temperatures: [[[u64; 3]; 26]; 2],
-    /// By rewrite and list.
-    refusals: [[u64; 2]; REFUSALS.len()],
+    temperatures: [[[u64; 4]; 26]; 2],
+    /// By rewrite, list and convert.
+    refusals: [[u64; 3]; REFUSALS.len()],
     files: [u64; FILES.len()],
     /// By check, loads, level, judge and sample.
     values: [[u64; 5]; VALUES.len()],
@@ -98,22 +99,16 @@ impl Kinds {
     }
 
     fn accepted(&mut self, by: By, file: &[u8]) {
-        let (mut at, mut counts) = (0, [0; 3]);
-        while at < file.len() {
-            let end = end_of(file, at);
-            let kind = usize::from(file[at] - KIND_52);
-            counts[kind] += 1;
+        for (_, record) in fields_in(file, 0, file.len()) {
+            let kind = usize::from(record[0] - KIND_52);
             self.kinds[kind][by as usize] += 1;
             if kind > 0 {
-                self.temperatures[kind - 1][usize::from(file[end - 1])][by as usize] += 1;
+                let temperature = usize::from(record[record.len() - 1]);
+                self.temperatures[kind - 1][temperature][by as usize] += 1;
             }
-            at = end;
         }
-        if counts.iter().sum::<u64>() > 1 {
-            let which: usize = (0..3)
-                .map(|kind| usize::from(counts[kind] > 0) << kind)
-                .sum();
-            self.files[which - 1] += 1;
+        if let (By::List, Some(row)) = (by, files_row(file)) {
+            self.files[row] += 1;
         }
     }
 
@@ -157,8 +152,8 @@ impl Kinds {
         self.values[row][call] += 1;
     }
 
-    /// Accepted records and judged site values, by rewrite, list and judge.
-    pub fn accepted_rows(&self) -> Vec<(String, [u64; 3])> {
+    /// Accepted records and judged site values, by rewrite, list, convert and judge.
+    pub fn accepted_rows(&self) -> Vec<(String, [u64; 4])> {
         let kinds = [52, 53, 54].map(|kind| format!("kind {kind}"));
         let mut rows: Vec<_> = kinds.into_iter().zip(self.kinds).collect();
         for (kind, temperatures) in [53, 54].into_iter().zip(self.temperatures) {
@@ -168,8 +163,8 @@ impl Kinds {
         rows
     }
 
-    /// Refusals of records, by rewrite and list.
-    pub fn refusal_rows(&self) -> Vec<(String, [u64; 2])> {
+    /// Refusals of records, by rewrite, list and convert.
+    pub fn refusal_rows(&self) -> Vec<(String, [u64; 3])> {
         let names = REFUSALS.map(str::to_string);
         names.into_iter().zip(self.refusals).collect()
     }
@@ -200,6 +195,32 @@ impl Kinds {
 /// Where the field that starts here, outer or inner, ends.
 fn end_of(bytes: &[u8], at: usize) -> usize {
     at + 3 + usize::from(u16::from_be_bytes([bytes[at + 1], bytes[at + 2]]))
+}
+
+/// The fields, outer or inner, that follow one another from a place on and start ahead of an end, each with where it starts.
+pub fn fields_in(
+    bytes: &[u8],
+    start: usize,
+    end: usize,
+) -> impl Iterator<Item = (usize, &[u8])> + '_ {
+    let mut at = start;
+    std::iter::from_fn(move || {
+        let start = at;
+        if start >= end {
+            return None;
+        }
+        at = end_of(bytes, start);
+        Some((start, &bytes[start..at]))
+    })
+}
+
+/// The row of an accepted file, where it has several records.
+pub fn files_row(file: &[u8]) -> Option<usize> {
+    let kinds: Vec<u8> = fields_in(file, 0, file.len())
+        .map(|(_, record)| record[0] - KIND_52)
+        .collect();
+    let which = kinds.iter().fold(0, |which, kind| which | 1 << kind);
+    (kinds.len() > 1).then(|| which - 1)
 }
 
 /// The row of a refusal, where there is one.
@@ -244,16 +265,11 @@ fn refusal(file: &[u8], rule: u64, offset: usize) -> Option<&'static str> {
 /// The record that is refused at an offset within it or at its end: its outer tag, how many fields stand before the
 /// offset, and its bytes from there.
 pub fn fault(file: &[u8], offset: usize) -> (u8, usize, &[u8]) {
-    let mut start = 0;
-    while end_of(file, start) < offset {
-        start = end_of(file, start);
-    }
-    let (mut at, mut fields) = (start + 3, 0);
-    while at < offset {
-        at = end_of(file, at);
-        fields += 1;
-    }
-    (file[start], fields, &file[offset..end_of(file, start)])
+    let (start, record) = fields_in(file, 0, offset)
+        .last()
+        .expect("a record that starts ahead of it");
+    let fields = fields_in(file, start + 3, offset).count();
+    (record[0], fields, &file[offset..start + record.len()])
 }
 
 /// The entries of a field 07, with one byte for a species or with two.

@@ -1,5 +1,6 @@
 //! How often lists of each length were lent, and lists with each kind of fault.
 
+use crate::species::ByInput;
 use compare::lists::ENTRY;
 use forest::Refusal;
 
@@ -56,9 +57,9 @@ const RESTS: [&str; 9] = [
 #[derive(Default)]
 pub struct Lists {
     /// By what is lent with the list, as the faults.
-    accepted: [[u64; 4]; LENGTHS.len()],
-    faults: [[u64; 4]; FAULTS.len()],
-    rests: [[u64; 4]; RESTS.len()],
+    accepted: [ByInput; LENGTHS.len()],
+    faults: [ByInput; FAULTS.len()],
+    rests: [ByInput; RESTS.len()],
 }
 
 impl Lists {
@@ -84,7 +85,7 @@ impl Lists {
         }
     }
 
-    pub fn rows(&self) -> Vec<(String, [u64; 4])> {
+    pub fn rows(&self) -> Vec<(String, ByInput)> {
         let names = LENGTHS.iter().chain(&FAULTS).chain(&RESTS);
         let counts = self.accepted.iter().chain(&self.faults).chain(&self.rests);
         names

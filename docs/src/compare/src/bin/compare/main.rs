@@ -1,6 +1,7 @@
 //! Compares the static library and the program with the independent implementation, byte for byte.
 
 mod comparison;
+mod converted;
 mod edges;
 mod kinds;
 mod lent;

@@ -5,16 +5,21 @@ use crate::lent::Lists;
 use compare::lists::ENTRY;
 use forest::{terms, Entry, Kind, Site};
 
-/// What is lent with a list: a file to three calls, a record to one, a site value to four, a site value with months to one.
+/// What is lent with a list: a file to three calls, a record to one, a site value to four, a site value with months to one, and
+/// a file with a target to one.
 #[derive(Clone, Copy)]
 pub enum With {
     File,
     Record,
     Value,
     Months,
+    Target,
 }
 
-const WITH: [&str; 4] = ["file", "record", "value", "months"];
+/// By what is lent with a list.
+pub type ByInput<T = u64> = [T; 5];
+
+const WITH: ByInput<&str> = ["file", "record", "value", "months", "convert"];
 
 /// 16, by the entries of the stand that the list lacks, and by where they would stand in it.
 const LACKING: [&str; 10] = [
@@ -45,19 +50,21 @@ const OUTSIDE: [&str; 9] = [
 
 /// The rules, by what is lent with the list, that a list at fault must come ahead of, that a species which the list lacks
 /// must come ahead of, and that must come ahead of it in the same stand. 0 is no other fault.
-const BEHIND_15: [&[u64]; 4] = [
+const BEHIND_15: ByInput<&[u64]> = [
     &[0, 1, 2, 3, 4, 5, 6, 7, 8, 9, 10],
     &[0, 1, 2, 3, 4, 5, 6, 7, 8, 9, 10],
     &[0, 7, 8, 9, 10],
     &[0, 7, 8, 9, 10, 12, 13, 14],
+    &[0, 1, 2, 3, 4, 5, 6, 7, 8, 9, 10, 17],
 ];
-const BEHIND_16: [&[u64]; 4] = [
+const BEHIND_16: ByInput<&[u64]> = [
     &[0, 2, 5, 6, 7, 8],
     &[0, 4, 5, 6, 7, 8],
     &[0, 8],
     &[0, 7, 8, 12, 13, 14],
+    &[0, 2, 5, 6, 7, 8, 17],
 ];
-const AHEAD_OF_16: [&[u64]; 4] = [&[8, 9, 10]; 4];
+const AHEAD_OF_16: ByInput<&[u64]> = [&[8, 9, 10]; WITH.len()];
 
 /// Judged sites of kind 54 by their species and contents.
 const JUDGED: [&str; 20] = [
@@ -86,14 +93,14 @@ const JUDGED: [&str; 20] = [
 #[derive(Default)]
 pub struct Species {
     lists: Lists,
-    lacking: [[u64; 4]; LACKING.len()],
-    outside: [[u64; 4]; OUTSIDE.len()],
+    lacking: [ByInput; LACKING.len()],
+    outside: [ByInput; OUTSIDE.len()],
     /// By rule.
-    behind_15: [[u64; 4]; 15],
-    behind_16: [[u64; 4]; 15],
-    ahead_of_16: [[u64; 4]; 15],
+    behind_15: [ByInput; 18],
+    behind_16: [ByInput; 18],
+    ahead_of_16: [ByInput; 18],
     /// 15 and 16 ahead of 11.
-    short: [[u64; 4]; 2],
+    short: [ByInput; 2],
     judged: [u64; JUDGED.len()],
 }
 
@@ -227,8 +234,8 @@ impl Species {
     }
 
     /// Lists and refusals, by what is lent with the list.
-    pub fn rows(&self) -> Vec<(String, [u64; 4])> {
-        let named = |names: &[&str], counts: &[[u64; 4]]| -> Vec<(String, [u64; 4])> {
+    pub fn rows(&self) -> Vec<(String, ByInput)> {
+        let named = |names: &[&str], counts: &[ByInput]| -> Vec<(String, ByInput)> {
             names
                 .iter()
                 .map(|name| name.to_string())
@@ -246,17 +253,17 @@ impl Species {
     }
 
     /// The columns of these rows.
-    pub const WITH: [&str; 4] = WITH;
+    pub const WITH: ByInput<&str> = WITH;
 
     /// Two faults of which the first named was given, by what is lent with the list; each with whether it is due.
-    pub fn orders(&self) -> Vec<(String, [(u64, bool); 4])> {
+    pub fn orders(&self) -> Vec<(String, ByInput<(u64, bool)>)> {
         let mut rows = Vec::new();
-        let mut add = |counts: &[[u64; 4]], due: [&[u64]; 4], name: &dyn Fn(u64) -> String| {
+        let mut add = |counts: &[ByInput], due: ByInput<&[u64]>, name: &dyn Fn(u64) -> String| {
             for (rule, counts) in (0..).zip(counts) {
                 let due = due.map(|rules| rules.contains(&rule));
                 if due.contains(&true) {
                     let column = |column: usize| (counts[column], due[column]);
-                    rows.push((name(rule), [0, 1, 2, 3].map(column)));
+                    rows.push((name(rule), std::array::from_fn(column)));
                 }
             }
         };
@@ -333,7 +340,7 @@ fn stand(with: With, input: &[u8], offset: usize) -> Vec<Entry> {
 /// The kind and the stand of a site value, or of the record whose field 07 is refused at an offset; else no kind.
 fn kind_and_stand(with: With, input: &[u8], offset: usize) -> (Option<Kind>, Vec<Entry>) {
     match with {
-        With::File | With::Record => match fault(input, offset) {
+        With::File | With::Record | With::Target => match fault(input, offset) {
             (tag, 6, field) => (kind_of(tag), stand_in(field, tag == KIND_54)),
             _ => (None, Vec::new()),
         },

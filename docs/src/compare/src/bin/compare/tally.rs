@@ -1,10 +1,11 @@
 //! How often each kind of answer, site and file occurred.
 
+use crate::converted::Converted;
 use crate::kinds::Kinds;
 use crate::sampled::Sampled;
 use crate::species::Species;
 use compare::files::PAGE_BORDERS;
-use forest::{terms, Site, Terms};
+use forest::{terms, Kind, Site, Terms};
 use std::ops::RangeInclusive;
 
 #[derive(Clone, Copy)]
@@ -13,6 +14,9 @@ pub enum Source {
     Pages,
     Report,
     Rewrite,
+    To52,
+    To53,
+    To54,
     Check,
     Loads,
     Level,
@@ -21,12 +25,26 @@ pub enum Source {
     Program,
 }
 
+impl Source {
+    /// Of conversions, by their target.
+    pub fn to(target: Kind) -> Source {
+        match target {
+            Kind::Tag52 => Source::To52,
+            Kind::Tag53 => Source::To53,
+            Kind::Tag54 => Source::To54,
+        }
+    }
+}
+
 /// The sources, and the rules that each can refuse by.
-const SOURCES: [(&str, [RangeInclusive<usize>; 2]); 10] = [
+const SOURCES: [(&str, [RangeInclusive<usize>; 2]); 13] = [
     ("list", [1..=11, 15..=16]),
     ("pages", [1..=11, 15..=16]),
     ("report", [1..=11, 15..=16]),
     ("rewrite", [1..=11, 15..=16]),
+    ("to 52", [1..=11, 15..=17]),
+    ("to 53", [1..=11, 15..=17]),
+    ("to 54", [1..=11, 15..=16]),
     ("check", [7..=10, 15..=16]),
     ("loads", [7..=11, 15..=16]),
     ("level", [7..=11, 15..=16]),
@@ -65,7 +83,7 @@ const PAGE_RECORDS: usize = 59 * 104;
 #[derive(Default)]
 pub struct Tally {
     /// By source, then by rule; 0 stands for success.
-    answers: [[u64; 17]; 10],
+    answers: [[u64; 18]; SOURCES.len()],
     /// By judge, by lines of listings, by lines of pages and by sample, as the next three.
     regions: [[u64; 5]; 4],
     within: [u64; 4],
@@ -91,6 +109,7 @@ pub struct Tally {
     sampled: Sampled,
     pub kinds: Kinds,
     pub species: Species,
+    pub converted: Converted,
 }
 
 impl Tally {
@@ -208,12 +227,12 @@ impl Tally {
     /// Prints the counts and returns how many kinds are due and never occurred.
     pub fn print(&self, with_program: bool) -> u64 {
         let mut absent = 0;
-        let sources = &SOURCES[..if with_program { 10 } else { 9 }];
+        let sources = &SOURCES[..SOURCES.len() - usize::from(!with_program)];
 
         print!("{:<24}", "");
         sources.iter().for_each(|(name, _)| print!("{name:>10}"));
         println!();
-        for rule in 0..=16 {
+        for rule in 0..=17 {
             match rule {
                 0 => print!("{:<24}", "success"),
                 _ => print!("{:<24}", format!("refusal {rule}")),
@@ -254,14 +273,19 @@ impl Tally {
         kinds.extend(self.species.judged_rows());
         absent += column("judge", kinds);
 
-        absent += table(["rewrite", "list", "judge"], self.kinds.accepted_rows());
+        let calls = ["rewrite", "list", "convert", "judge"];
+        absent += table(calls, self.kinds.accepted_rows());
         absent += column("list", self.kinds.files());
-        absent += table(["rewrite", "list"], self.kinds.refusal_rows());
+        let calls = ["rewrite", "list", "convert"];
+        absent += table(calls, self.kinds.refusal_rows());
         let calls = ["check", "loads", "level", "judge", "sample"];
         absent += table(calls, self.kinds.value_rows());
 
         absent += table(Species::WITH, self.species.rows());
-        absent += self.orders();
+        absent += table_of_due(Species::WITH, self.species.orders());
+
+        absent += table_of_due(["to 52", "to 53", "to 54"], self.converted.rows());
+        absent += column("convert", self.converted.other_rows());
 
         let compared =
             COMPARED.map(|levels| (format!("compared: {levels}"), self.compared[levels]));
@@ -274,22 +298,6 @@ impl Tally {
         kinds.push((named("fault after a page"), self.fault_after_a_page));
         absent += column("pages", kinds);
         absent + column("sample", self.sampled.kinds())
-    }
-
-    /// Two faults of which one comes first, by what is lent with the list.
-    fn orders(&self) -> u64 {
-        let mut absent = 0;
-        print!("\n{:<24}", "");
-        Species::WITH.iter().for_each(|title| print!("{title:>10}"));
-        println!();
-        for (name, counts) in self.species.orders() {
-            print!("{name:<24}");
-            for (count, is_due) in counts {
-                absent += cell(count, is_due);
-            }
-            println!();
-        }
-        absent
     }
 }
 
@@ -315,21 +323,23 @@ fn column(title: &str, kinds: Vec<(String, u64)>) -> u64 {
 
 /// Prints columns of kinds that are all due; returns how many never occurred.
 fn table<const N: usize>(titles: [&str; N], rows: Vec<(String, [u64; N])>) -> u64 {
+    let all_due = |(name, counts): (String, [u64; N])| (name, counts.map(|count| (count, true)));
+    table_of_due(titles, rows.into_iter().map(all_due).collect())
+}
+
+/// Prints columns of kinds, each with whether it is due; returns how many that are due never occurred.
+fn table_of_due<const N: usize>(titles: [&str; N], rows: Vec<(String, [(u64, bool); N])>) -> u64 {
     print!("\n{:<24}", "");
     titles.iter().for_each(|title| print!("{title:>10}"));
     println!();
     let mut absent = 0;
     for (name, counts) in rows {
         print!("{name:<24}");
-        absent += row(&counts);
+        for (count, is_due) in counts {
+            absent += cell(count, is_due);
+        }
+        println!();
     }
-    absent
-}
-
-/// Ends a line with counts that are all due; returns how many are 0.
-fn row(counts: &[u64]) -> u64 {
-    let absent = counts.iter().map(|&count| cell(count, true)).sum();
-    println!();
     absent
 }
 
