@@ -7,6 +7,7 @@
 //   T  two bytes, a count with the high byte first, then one record: the pages of a file of that many such records, as far as the buffer holds them
 //   M  a record, then months of the rain sampler, those left out being dry: the pair of the year and its judgement at the record's site, or the line of its refusal
 //   H  a record: the hydrogen level of its site and how many levels were compared, or the line of its refusal
+//   C  an outer tag, then a file: the file converted to records of that tag, in hexadecimal, or the line of its refusal
 //   L  a list of species, which is lent to the vectors after it; to those before the first, an empty one is
 #![tactic(auto)]
 
@@ -15,19 +16,23 @@ mod vectors;
 
 use crate::hexadecimal::decode;
 use crate::vectors::{
-    Stop, print_level, print_months, print_pages, print_repeated, print_report, print_rewritten,
+    Stop, print_converted, print_level, print_months, print_pages, print_repeated, print_report,
+    print_rewritten,
 };
 use arrayvec::ArrayVec;
 use site::{Refusal, SpeciesList};
 use std::io::{self, Read};
 
-// The letter picks the call: a table of functions would be no plainer. The list's check comes first, as in the calls for C.
+// The letter picks the call: a table of functions would be no plainer. The list's check comes first, but for the tag that a file is converted to, as in the calls for C.
 fn print_vector(
     rt: &impl Print,
     kind: u8,
     bytes: &ArrayVec<u8, 2048>,
     list: &[u8],
 ) -> Result<(), Stop> {
+    if kind == b'C' {
+        return print_converted(rt, bytes, list);
+    }
     let mut out = [0u8; 2048];
     let list = SpeciesList::checked(list)?;
     match kind {

@@ -1,5 +1,6 @@
 // What is printed for the bytes of a vector, by its letter.
 use arrayvec::ArrayVec;
+use convert::convert;
 use judgement::Verdict;
 use level::level_at;
 use listing::report;
@@ -9,7 +10,7 @@ use pages::list_pages;
 use readings::months_in;
 use record::{read_record, write_record};
 use sampler::{Sampled, judge_months};
-use site::{Refusal, SpeciesList};
+use site::{RecordKind, Refusal, SpeciesList};
 use std::io::{self, Write};
 
 // What ends a vector: a call's refusal, or a write that failed.
@@ -70,6 +71,13 @@ pub fn print_repeated(rt: &impl Print, bytes: &[u8], list: SpeciesList<'_>) -> R
     }
 }
 
+fn print_hexadecimal(rt: &impl Print, bytes: &[u8]) -> io::Result<()> {
+    for b in bytes {
+        print!(rt; "{b:02X}")?;
+    }
+    println!(rt)
+}
+
 // A record read, and written again into a lent buffer.
 #[tactic(auto, unfolding(site::specs::Refusal::unless, output::specs::Output::held_after))]
 pub fn print_rewritten(
@@ -80,11 +88,18 @@ pub fn print_rewritten(
 ) -> Result<(), Stop> {
     let site = read_record(record, list)?;
     let n = write_record(site, list, out)?;
-    for b in &out[..n] {
-        print!(rt; "{b:02X}")?;
-    }
-    println!(rt)?;
-    Ok(())
+    Ok(print_hexadecimal(rt, &out[..n])?)
+}
+
+// A file moved to the kind of the first byte. No contract says how many bytes are written, so the count is cut to the buffer.
+pub fn print_converted(rt: &impl Print, bytes: &[u8], list: &[u8]) -> Result<(), Stop> {
+    let [target, file @ ..] = bytes else {
+        return Ok(());
+    };
+    let target = RecordKind::try_from(*target).map_err(Refusal::from)?;
+    let mut out = [0u8; 2048];
+    let n = convert(file, SpeciesList::checked(list)?, target, &mut out)?;
+    Ok(print_hexadecimal(rt, &out[..n.min(out.len())])?)
 }
 
 fn print_verdict(rt: &impl Print, verdict: Verdict) -> io::Result<()> {
