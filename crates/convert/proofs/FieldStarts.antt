@@ -2,7 +2,7 @@
 use mathlib.Core.Path.{◌≡◌, refl, sym, ap, ◌∙◌}
 use mathlib.Core.Bool.{true, false≢true}
 use mathlib.Core.List.{List, [], ◌∷◌, ◌++◌}
-use Prim.Native.Nat.{ℕ, ◌+◌, ◌-◌, ◌%◌, ◌/◌}
+use Prim.Native.Nat.{ℕ, ◌+◌, ◌-◌}
 use native.Mathlib.Omega.{arith}
 use lib.ListN.{length, take, length-append, get_or}
 use Rattle.std.proofs.lemmas.List.{get_or-append-add, append_assoc}
@@ -58,8 +58,8 @@ starts s t later rest order =
     let split : encode_fields K (due s.kind) s ≡ front ++ behind = ap (λ ts. encode_fields K ts s) order ∙ fields_append K s (take (t - 1) (due s.kind)) (t ∷ later) in
     let head = kind_tag s.kind ∷ word_bytes (length (front ++ behind)) in
     let past : get_or (head ++ ((front ++ behind) ++ rest)) (3 + length front) 0 ≡ get_or ((front ++ behind) ++ rest) (length front) 0 =
-        get_or-append-add head ((front ++ behind) ++ rest) (length front) 0 in
+    get_or-append-add head ((front ++ behind) ++ rest) (length front) 0 in
     let none : length front ≡ length front + 0 = omega arith in
     let there : get_or ((front ++ behind) ++ rest) (length front) 0 ≡ t =
-        ap (λ (bs : List ℕ). get_or bs (length front) 0) (append_assoc front behind rest) ∙ ap (λ (n : ℕ). get_or (front ++ (behind ++ rest)) n 0) none ∙ get_or-append-add front (behind ++ rest) 0 0 in
+    ap (λ (bs : List ℕ). get_or bs (length front) 0) (append_assoc front behind rest) ∙ ap (λ (n : ℕ). get_or (front ++ (behind ++ rest)) n 0) none ∙ get_or-append-add front (behind ++ rest) 0 0 in
     rw split (past ∙ there)

@@ -4,3 +4,4 @@ pub mod FieldStarts
 pub mod SameRecordsLaws
 pub mod FaultLaws
 pub mod ConvertLaws
+pub mod ExampleConverted

@@ -2,22 +2,22 @@
 use mathlib.Core.Path.{◌≡◌, refl, sym, ap, ◌∙◌}
 use mathlib.Core.Bool.{Bool, true, false, ◌&&◌, ◌||◌, false≢true}
 use mathlib.Core.List.{List, [], ◌∷◌, ◌++◌}
-use Prim.Native.Nat.{ℕ, ◌+◌, ◌≤◌, ◌<◌}
+use Prim.Native.Nat.{ℕ, ◌≤◌}
 use native.Mathlib.Omega.{arith}
-use borrow.Author.Tests.{leb-true, ltb-true, eqb-true, le-leb, lt-ltb}
+use borrow.Author.Tests.{ltb-true, eqb-true, lt-ltb}
 use lib.Dec.{leb, ltb, eqb}
 use lib.ListN.{length, take, length-take, length-append, replicate}
 use Rattle.std.specs.List.{list_all}
 use Rattle.std.proofs.lemmas.List.{length-replicate}
 use Rattle.std.specs.Prelude.{Ok}
 use Rattle.site.specs.Bounds.{no_entry}
-use Rattle.site.specs.Check.{site_rule, fields_rule}
+use Rattle.site.specs.Check.{site_rule}
 use Rattle.site.specs.Kinds.{due, two_byte_species, has_temperature, reference_temperature, counted_temperature}
 use Rattle.site.specs.OneSite.{OneSite}
 use Rattle.site.specs.Ranges.{most_species, listed_range, share_range, most_yield, temperature_range}
 use Rattle.site.specs.Choice.{pick}
-use Rattle.site.specs.Refusal.{Checked, and_then}
-use Rattle.site.specs.Values.{count_rule, item_count, value_rule, between, inside, ranged, species_ranged, entry_ranged, order_rule, entries_rule, rising_from, shares_of, known_rule, stand_rule}
+use Rattle.site.specs.Refusal.{and_then}
+use Rattle.site.specs.Values.{count_rule, item_count, value_rule, between, inside, species_ranged, entry_ranged, entries_rule, known_rule, stand_rule}
 use Rattle.site.specs.declared.Entry.{Entry}
 use Rattle.site.specs.declared.RecordKind.{RecordKind}
 use Rattle.site.specs.declared.RecordKind.TheVariants.{Tag52, Tag53, Tag54}
@@ -49,7 +49,7 @@ module _ (k : RecordKind) (s : Site) (held : temperature_held k s ≡ Ok tt) whe
   counted_moved = by_kind k (held_true _ held)
     where
       by_kind : (j : RecordKind) → has_temperature j || eqb (counted_temperature s) reference_temperature ≡ true
-          → counted_temperature (record s { kind = j; temperature = counted_temperature s; }) ≡ counted_temperature s
+          → counted_temperature (record s { kind = j; temperature = counted_temperature s }) ≡ counted_temperature s
       by_kind Tag52 e = sym (eqb-true (counted_temperature s) reference_temperature e)
       by_kind Tag53 e = refl
       by_kind Tag54 e = refl

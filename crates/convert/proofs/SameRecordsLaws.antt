@@ -1,38 +1,29 @@
 -- A converted file passes the checks with the same terms, loads and marks, and converts back to its own bytes.
 use mathlib.Core.Path.{◌≡◌, refl, sym, ap, subst, ◌∙◌}
-use mathlib.Core.Logic.{◌⊎◌, inl, inr, ⊎_elim}
-use mathlib.Core.List.{List, [], ◌∷◌, ◌++◌, map}
-use Prim.Native.Nat.{ℕ, zero, suc, ◌+◌, ◌-◌, ◌≤◌, ◌<◌}
+use mathlib.Core.List.{List, [], ◌∷◌, map}
+use Prim.Native.Nat.{ℕ, suc, ◌≤◌, ◌<◌}
 use native.Mathlib.Omega.{arith}
-use lib.ListN.{length, get_or, take, length-map}
-use Rattle.std.specs.Prelude.{Ok, Err, flat_map}
+use lib.ListN.{length, get_or, length-map}
+use Rattle.std.specs.Prelude.{Ok}
 use Rattle.std.proofs.lemmas.Simd.{map-map}
 use Rattle.numbers.specs.TwoBytes.{AllBytes}
 use Rattle.site.specs.Check.{site_rule}
-use Rattle.site.specs.Kinds.{due}
-use Rattle.site.specs.Ranges.{most_records}
 use Rattle.site.specs.declared.RecordKind.{RecordKind}
-use Rattle.site.specs.declared.RecordKind.TheVariants.{Tag52, Tag53, Tag54}
-use Rattle.site.specs.declared.Refusal.{Refusal}
 use Rattle.site.specs.declared.Site.{Site}
-use Rattle.site.proofs.Tests.{le_or_lt}
 use Rattle.loads.specs.SiteTerms.{terms_of}
 use Rattle.judgement.specs.Answers.{judged_of}
 use Rattle.field.specs.Clean.{clean, Sized}
 use Rattle.field.specs.Field.{blank_site}
 use Rattle.field.proofs.All.{All, none, ◌▸◌, map-all, zip_all}
-use Rattle.record.specs.File.{Contents, contents}
-use Rattle.record.specs.Writer.{encode}
+use Rattle.record.specs.File.{contents}
 use Rattle.record.proofs.SiteFile.{sites_none, sites_checked, sites_clean, sites_written, sites_read}
-use Rattle.text.specs.declared.Row.{Row}
-use Rattle.text.specs.Listing.{listing}
 use Rattle.listing.specs.Rows.{row_of}
 use Rattle.listing.specs.Reports.{printed, report_of}
 use Rattle.convert.specs.Moved.{moved, temperature_held, Converts}
-use Rattle.convert.specs.Converted.{all_moved, converted, file_of}
+use Rattle.convert.specs.Converted.{converted, file_of}
 use Rattle.convert.specs.SameRecords.{OfKind, SameRecords}
-use Rattle.convert.proofs.MovedLaws.{moved_terms, moved_judged, moved_row, moved_passes, moved_clean, moved_back, moved_itself, moved_sized, own_converts, back_converts}
-use Rattle.convert.proofs.ConvertedLaws.{all_converts, all_moved_ok}
+use Rattle.convert.proofs.MovedLaws.{moved_terms, moved_judged, moved_row, moved_passes, moved_clean, moved_back, moved_itself, moved_sized, back_converts}
+use Rattle.convert.proofs.ConvertedLaws.{all_converts}
 
 -- ---- all sites of a list
 

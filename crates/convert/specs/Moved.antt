@@ -1,6 +1,6 @@
 -- A site as a record of another kind has it, and what such a record cannot hold: document 02, E7.
 use Rattle.std.specs.List.{list_all}
-use Rattle.std.specs.Prelude.{ℕ, ◌+◌, ◌-◌, ◌≡◌, Bool, ◌||◌, List, [], ltb, eqb, length, take, Ok, Err}
+use Rattle.std.specs.Prelude.{ℕ, ◌+◌, ◌-◌, ◌≡◌, Bool, ◌||◌, [], ltb, eqb, length, take, Ok, Err}
 use Rattle.site.specs.Choice.{pick}
 use Rattle.site.specs.Kinds.{due, two_byte_species, has_temperature, reference_temperature, counted_temperature}
 use Rattle.site.specs.Refusal.{Checked}
@@ -13,7 +13,7 @@ use Rattle.record.specs.Fields.{encode_fields}
 
 -- into kind k: every value stays, and the temperature is the one that counts, which at a site of kind 52 is 8 °C
 unfoldable pub moved : RecordKind → Site → Site
-moved k s = record s { kind = k; temperature = counted_temperature s; }
+moved k s = record s { kind = k; temperature = counted_temperature s }
 
 -- rule 17
 abbrev pub held_by : Bool → Checked

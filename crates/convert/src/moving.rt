@@ -22,11 +22,7 @@ pub fn moved(kind: RecordKind, site: Site) -> Site
 fn held_by(b: bool) -> Result<(), Rule>
     ensures { result ≡ held_by b }
 {
-    if b {
-        Ok(())
-    } else {
-        Err(Rule::NotConvertible)
-    }
+    if b { Ok(()) } else { Err(Rule::NotConvertible) }
 }
 
 // Whether all species are below 256.

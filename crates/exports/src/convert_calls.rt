@@ -9,12 +9,7 @@ use crate::codes::written_code;
 use convert::convert;
 use site::{RecordKind, Refusal, SpeciesList};
 
-fn convert_lent(
-    file: &[u8],
-    list: &[u8],
-    target: u8,
-    out: &mut [u8],
-) -> Result<usize, Refusal>
+fn convert_lent(file: &[u8], list: &[u8], target: u8, out: &mut [u8]) -> Result<usize, Refusal>
     ensures answer { result ≡ file_answer file_of (converted_to target list.now file.now) out.old }
     ensures buffer { out.new ≡ file_held file_of (converted_to target list.now file.now) out.old }
     ensures small { Small result }

@@ -1,5 +1,5 @@
 -- From the rows of a file to what is listed and printed.
-use Prim.Native.Nat.{ℕ, ◌*◌, ◌≤◌}
+use Prim.Native.Nat.{ℕ, ◌≤◌}
 use mathlib.Core.Path.{◌≡◌, refl, sym, ◌∙◌}
 use mathlib.Core.List.{List, map}
 use native.Mathlib.Omega.{arith}
@@ -13,12 +13,9 @@ use Rattle.text.specs.Listing.{listing}
 use Rattle.text.specs.RefusalLine.{refusal}
 use Rattle.output.specs.Output.{Written, held, written_numbers}
 use Rattle.text.specs.TextAnswer.{text_answer, RoomEnough}
-use Rattle.output.proofs.OutputLaws.{count_is, refused_at_0}
 use Rattle.text.proofs.TextAnswers.{AnsweredWithin, Answered, Clauses, clauses_then, by_clauses, answered, written}
 use Rattle.record.specs.File.{Contents, made_of, contents}
-use Rattle.site.specs.Ranges.{most_records}
-use Rattle.record.specs.Records.{most_record}
-use Rattle.record.proofs.SiteFile.{sites_fault_near, sites_checked}
+use Rattle.record.proofs.SiteFile.{sites_checked}
 use Rattle.listing.specs.Rows.{row_of, walked_of}
 use Rattle.listing.specs.FileText.{file_answer, file_numbers, file_held, FileRoom}
 use Rattle.listing.specs.Reports.{listing_of, printed, report_of}

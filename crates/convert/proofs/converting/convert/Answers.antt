@@ -1,4 +1,4 @@
-use Rattle.std.proofs.Common.{arith, rules}
+use Rattle.std.proofs.Common.{arith}
 use Rattle.std.proofs.lemmas.Result.{err_from_is_err_and}
 use Rattle.convert.proofs.ConvertLaws.{convert_fault, convert_not_held, convert_short, convert_done}
 use Rattle.convert.proofs.converting.convert.Goals as goal

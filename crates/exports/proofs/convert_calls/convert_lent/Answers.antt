@@ -1,4 +1,4 @@
-use Rattle.std.proofs.Common.{◌≡◌, Err, sym, ◌∙◌, arith, rules}
+use Rattle.std.proofs.Common.{◌≡◌, Err, sym, arith, rules}
 use Rattle.std.proofs.lemmas.Result.{err_from_is_err_and}
 use Rattle.exports.proofs.ConvertCallLaws.{target_refused, bad_list, file_converted}
 use Rattle.exports.proofs.convert_calls.convert_lent.Goals as goal
@@ -21,5 +21,5 @@ returns c =
     let e = c.convert.ensures in
     let good = c.in_ok-list.ensures.answer in
     let h = file_converted c.args.target c.args.list.now c.args.file.now c.args.out.now c.in_ok-target.target (sym c.in_ok-target.ensures) (λ i. omega (arith, c.type_inv.file i)) good.0
-        (rw good.1 at e.answer) (rw good.1 at e.buffer) (rw good.1 at e.enough) (rw good.1 at e.same) in
+    (rw good.1 at e.answer) (rw good.1 at e.buffer) (rw good.1 at e.enough) (rw good.1 at e.same) in
     record { answer = h.answer; buffer = h.buffer; small = h.small; same = h.same }
