@@ -116,7 +116,7 @@ uint64_t forest_rewrite(const uint8_t *record, size_t record_len, const uint8_t 
  * Refused are, in this order: a target other than the three (3, at 0); the list (15); the file, as by forest_list (1 to 10
  * and 16); the first field from the left that cannot go down, 07 ahead of 10 in a record (17); a buffer shorter than the
  * moved file (11). A moved record has at most 104 bytes: a buffer of FOREST_MOST_CONVERTED bytes is always long enough.
- * Stack: @STACK@ KiB. */
+ * Stack: 64 KiB. */
 uint64_t forest_convert(const uint8_t *file, size_t file_len, const uint8_t *list, size_t list_len, uint8_t target,
                         uint8_t *out, size_t out_len);
 
