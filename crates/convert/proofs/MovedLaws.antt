@@ -29,7 +29,7 @@ use Rattle.site.proofs.BoundsLaw.{site_ranged}
 use Rattle.site.proofs.NarrowLaws.{narrow_species}
 use Rattle.site.proofs.Tests.{and_l, and_r}
 use Rattle.loads.specs.SiteTerms.{terms_of}
-use Rattle.loads.proofs.OneSiteLaws.{terms_same}
+use Rattle.loads.proofs.OneSiteLaws.{terms_same, one_with}
 use Rattle.judgement.specs.Answers.{judged_of}
 use Rattle.field.specs.Clean.{clean, Sized}
 use Rattle.field.proofs.All.{All, none, ◌▸◌, all_append}
@@ -57,23 +57,7 @@ module _ (k : RecordKind) (s : Site) (held : temperature_held k s ≡ Ok tt) whe
   -- so it is one site with the one it comes from
   pub one_moved : OneSite (moved k s) s
   unfolding moved
-  one_moved = record {
-    parent = refl;
-    clay = refl;
-    sand = refl;
-    depth = refl;
-    drainage = refl;
-    percolation = refl;
-    stand = refl;
-    immobilisation = refl;
-    available = refl;
-    deposition = refl;
-    ratio = refl;
-    gibbsite = refl;
-    ceiling = refl;
-    leachate = refl;
-    temperature = counted_moved;
-  }
+  one_moved = one_with s k s.name s.sulphur s.nitrogen (counted_temperature s) counted_moved
 
   module _ (list : List ℕ) where
     -- and has the same terms

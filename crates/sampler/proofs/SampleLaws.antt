@@ -14,7 +14,7 @@ use Rattle.site.specs.declared.Site.{Site}
 use Rattle.site.specs.declared.RecordKind.{RecordKind}
 use Rattle.site.specs.declared.Refusal.{Refusal}
 use Rattle.loads.specs.SiteTerms.{terms_of}
-use Rattle.loads.proofs.OneSiteLaws.{terms_same}
+use Rattle.loads.proofs.OneSiteLaws.{terms_same, one_with}
 use Rattle.judgement.specs.Answers.{judged_of, judgement_answer, pair_values}
 use Rattle.judgement.specs.Balance.{Tells}
 use Rattle.judgement.specs.Verdicts.{verdict_word, within, over}
@@ -41,23 +41,7 @@ module _ (list : List ℕ) (s : Site) (p : Pair) where
 
   pub pair_terms : terms_of list (with_pair s p) ≡ terms_of list s
   unfolding with_pair counted_temperature
-  pair_terms = terms_same list (with_pair s p) s (record {
-    parent = refl;
-    clay = refl;
-    sand = refl;
-    depth = refl;
-    drainage = refl;
-    percolation = refl;
-    stand = refl;
-    immobilisation = refl;
-    available = refl;
-    deposition = refl;
-    ratio = refl;
-    gibbsite = refl;
-    ceiling = refl;
-    leachate = refl;
-    temperature = refl;
-  })
+  pair_terms = terms_same list (with_pair s p) s (one_with s s.kind s.name p.sulphur p.nitrogen s.temperature refl)
 
   abbrev keyed_answer : Result Sampled Refusal
   keyed_answer = keyed p (judgement_answer list (with_pair s p))
