@@ -24,14 +24,14 @@ use Rattle.record.specs.Records.{most_record}
 use Rattle.record.specs.Writer.{encode, most_site_record}
 use Rattle.record.proofs.EncodeLaws.{record_few}
 use Rattle.record.proofs.SiteFile.{sites_checked, sites_clean, sites_written, sites_fault_near}
-use Rattle.listing.proofs.FiledLaws.{Filed, filed, not_filed}
+use Rattle.listing.proofs.FileWrittenLaws.{FileWritten, file_written, file_refused}
 use Rattle.convert.specs.Moved.{moved, Converts}
-use Rattle.convert.specs.Converted.{all_moved, AllConvert, moved_record, converted, file_of, most_converted}
+use Rattle.convert.specs.Converted.{all_moved, moved_record, converted, file_of, most_converted}
 use Rattle.convert.specs.SameRecords.{SameRecords}
 use Rattle.convert.proofs.FaultLaws.{fault_at_field}
 use Rattle.convert.proofs.MovedLaws.{clean_sized, moved_sized}
-use Rattle.convert.proofs.ConvertedLaws.{all_converts}
-use Rattle.convert.proofs.SameRecordsLaws.{all_places, map_each, tidy, same_records}
+use Rattle.convert.proofs.ConvertedLaws.{all_moved_ok}
+use Rattle.convert.proofs.SameRecordsLaws.{map_each, tidy, same_records}
 
 -- no record is longer than the greatest
 records_few : (ss : List Site) → All Sized ss → length (file_of ss) ≤ most_site_record * length ss
@@ -40,8 +40,8 @@ records_few (s ∷ ss) (z ▸ zs) = omega (arith, length-append (encode s) (file
 
 -- no refusal lies past 500 records of the greatest length
 module _ (list f : List ℕ) (b : AllBytes f) (k : RecordKind) where
-  held_near : (ss : List Site) → contents list f ≡ Ok ss → {r : Refusal} → all_moved k 0 ss ≡ Err r → r.at ≤ most_record * most_records
-  held_near ss e {r} fault =
+  inconvertible_near : (ss : List Site) → contents list f ≡ Ok ss → {r : Refusal} → all_moved k 0 ss ≡ Err r → r.at ≤ most_record * most_records
+  inconvertible_near ss e {r} fault =
       let sized : All Sized ss = map-all (λ s t. clean_sized k s t) (sites_clean list f ss e) in
       let long : length f ≤ most_site_record * length ss = rw (sites_written list f b ss e) (records_few ss sized) in
       omega (arith, ⊎_elim (λ h. inside 6 h) (λ h. inside 15 h) (fault_at_field list f b k ss e fault).1, long, (sites_checked list f ss e).0)
@@ -58,38 +58,38 @@ module _ (list f : List ℕ) (b : AllBytes f) (k : RecordKind) where
   converted_near r e = by_contents (contents list f) refl e
     where
       by_contents : (c : Contents Site) → contents list f ≡ c → converted k c ≡ Err r → r.at ≤ most_record * most_records
-      by_contents (Ok ss) q fault = held_near ss q fault
+      by_contents (Ok ss) q fault = inconvertible_near ss q fault
       by_contents (Err j) q fault = let same : j ≡ r = cc in rw (← same) (sites_fault_near list f q)
 
 module _ (list f d : List ℕ) (k : RecordKind) where
   -- the clauses of the call
   abbrev Clauses : List ℕ → Written → Type 0
-  Clauses e r = Filed most_converted file_of (converted k (contents list f)) d e r × IfOk r (λ n. SameRecords list k f (take n e))
+  Clauses e r = FileWritten most_converted file_of (converted k (contents list f)) d e r × IfOk r (λ n. SameRecords list k f (take n e))
 
   -- the file's own fault
   pub convert_fault : {r : Refusal} → contents list f ≡ Err r → Clauses d (Err r)
   unfolding converted
-  convert_fault e = (not_filed most_converted file_of (converted k (contents list f)) d (rw e), tt)
+  convert_fault e = (file_refused most_converted file_of (converted k (contents list f)) d (rw e), tt)
 
   module _ (ss : List Site) (e : contents list f ≡ Ok ss) where
     -- rule 17
-    pub convert_not_held : {r : Refusal} → all_moved k 0 ss ≡ Err r → Clauses d (Err r)
+    pub convert_inconvertible : {r : Refusal} → all_moved k 0 ss ≡ Err r → Clauses d (Err r)
     unfolding converted
-    convert_not_held m = (not_filed most_converted file_of (converted k (contents list f)) d (rw e m), tt)
+    convert_inconvertible m = (file_refused most_converted file_of (converted k (contents list f)) d (rw e m), tt)
 
-    module _ (b : AllBytes f) {n : ℕ} (all : AllConvert k ss n) where
+    module _ (b : AllBytes f) {n : ℕ} (all : (all_moved k 0 ss ≡ Ok (map (moved k) ss)) × (n ≡ length (flat_map (moved_record k) ss))) where
       holds : All (Converts k) ss
-      holds = all_places ss all.converts
+      holds = all_moved_ok k ss 0 all.0
 
       made : converted k (contents list f) ≡ Ok (map (moved k) ss)
       unfolding converted
-      made = rw e (all_converts k ss holds 0)
+      made = rw e all.0
 
       bytes : flat_map (moved_record k) ss ≡ file_of (map (moved k) ss)
       bytes = sym (flat_map-map encode (moved k) ss)
 
       long : n ≡ length (file_of (map (moved k) ss))
-      long = all.bytes ∙ ap length bytes
+      long = all.1 ∙ ap length bytes
 
       few : length (file_of (map (moved k) ss)) ≤ most_converted
       few =
@@ -98,10 +98,10 @@ module _ (list f d : List ℕ) (k : RecordKind) where
 
       -- rule 11
       pub convert_short : length d < n → Clauses d (Err (record { rule = BufferShort; at = 0 }))
-      convert_short h = (filed most_converted file_of (converted k (contents list f)) d (map (moved k) ss) made (text_refused (file_of (map (moved k) ss)) d (omega (arith, long)) few), tt)
+      convert_short h = (file_written most_converted file_of (converted k (contents list f)) d (map (moved k) ss) made (text_refused (file_of (map (moved k) ss)) d (omega (arith, long)) few), tt)
 
       pub convert_done : n ≤ length d → {e' : List ℕ} {r : ℕ} → Wrote d 0 (flat_map (moved_record k) ss) e' r → Clauses e' (Ok r)
       convert_done h w =
           let text = file_of (map (moved k) ss) in
           let a = text_printed {most = most_converted} text (rw bytes at w) (omega (arith, long)) few in
-          (filed most_converted file_of (converted k (contents list f)) d (map (moved k) ss) made a, rw (written text d _ _ a.answer a.buffer _ refl) (same_records list f b k ss e holds))
+          (file_written most_converted file_of (converted k (contents list f)) d (map (moved k) ss) made a, rw (written text d _ _ a.answer a.buffer _ refl) (same_records list f b k ss e holds))

@@ -16,35 +16,28 @@ use Rattle.field.proofs.All.{All, none, ◌▸◌, all_append, all_at}
 use Rattle.output.proofs.EachLaws.{length_more}
 use Rattle.record.specs.File.{Contents, first}
 use Rattle.record.specs.Writer.{encode, most_site_record}
-use Rattle.convert.specs.Moved.{moved, species_held, temperature_held, Converts, field_start}
-use Rattle.convert.specs.Converted.{held_at, all_moved, moved_record, file_of, AllConvert, NotHeld, stand, temperature, FirstNotHeld}
+use Rattle.convert.specs.Moved.{moved, species_convertible, temperature_convertible, Converts, field_start}
+use Rattle.convert.specs.Converted.{if_convertible, all_moved, moved_record, file_of, Inconvertible, stand, temperature, FirstInconvertible}
 
 module _ (k : RecordKind) where
   pub all_converts : (ss : List Site) → All (Converts k) ss → (at : ℕ) → all_moved k at ss ≡ Ok (map (moved k) ss)
-  unfolding all_moved held_at unless first
+  unfolding all_moved if_convertible unless first
   all_converts [] none at = refl
   all_converts (s ∷ ss) (c ▸ cs) at = rw (c.species, c.temperature, all_converts ss cs (at + length (encode s)))
 
   -- and only there
-  pub record AllMoved (ss ts : List Site) : Type 0 where
-    pub converts : All (Converts k) ss
-    pub each : ts ≡ map (moved k) ss
-
-  pub all_moved_ok : (ss : List Site) (at : ℕ) {ts : List Site} → all_moved k at ss ≡ Ok ts → AllMoved ss ts
-  unfolding all_moved held_at unless first
-  all_moved_ok [] at {ts} e = record { converts = none; each = cc }
+  pub all_moved_ok : (ss : List Site) (at : ℕ) {ts : List Site} → all_moved k at ss ≡ Ok ts → All (Converts k) ss
+  unfolding all_moved if_convertible unless first
+  all_moved_ok [] at e = none
   all_moved_ok (s ∷ ss) at {ts} e =
-      by_rules (species_held k s) (temperature_held k s) (all_moved k (at + length (encode s)) ss) refl refl (λ us m. all_moved_ok ss (at + length (encode s)) m) e
+      by_rules (species_convertible k s) (temperature_convertible k s) (all_moved k (at + length (encode s)) ss) refl refl (λ us m. all_moved_ok ss (at + length (encode s)) m) e
     where
-      by_rules : (a b : Checked) (c : Contents Site) → species_held k s ≡ a → temperature_held k s ≡ b → ((us : List Site) → c ≡ Ok us → AllMoved ss us)
-          → unless a (at + field_start 7 s) (unless b (at + field_start 16 s) (first (moved k s) c)) ≡ Ok ts → AllMoved (s ∷ ss) ts
-      by_rules (Ok u) (Ok v) (Ok us) p q r e =
-          let rest = r us refl in
-          let here : moved k s ∷ us ≡ ts = cc in
-          record { converts = record { species = p; temperature = q } ▸ rest.converts; each = sym here ∙ ap (λ xs. moved k s ∷ xs) rest.each }
-      by_rules (Ok u) (Ok v) (Err x) p q r e = cc
-      by_rules (Ok u) (Err x) c p q r e = cc
-      by_rules (Err x) b c p q r e = cc
+      by_rules : (a b : Checked) (c : Contents Site) → species_convertible k s ≡ a → temperature_convertible k s ≡ b → ((us : List Site) → c ≡ Ok us → All (Converts k) ss)
+          → unless a (at + field_start 7 s) (unless b (at + field_start 16 s) (first (moved k s) c)) ≡ Ok ts → All (Converts k) (s ∷ ss)
+      by_rules (Ok u) (Ok v) (Ok us) p q more e = record { species = p; temperature = q } ▸ more us refl
+      by_rules (Ok u) (Ok v) (Err x) p q more e = cc
+      by_rules (Ok u) (Err x) c p q more e = cc
+      by_rules (Err x) b c p q more e = cc
 
   -- the first field that a record of the kind cannot hold, among records that stand from an offset on
   record FirstFrom (at : ℕ) (ss : List Site) (r : Refusal) : Type 0 where
@@ -53,18 +46,18 @@ module _ (k : RecordKind) where
     after : List Site
     order : ss ≡ before ++ site ∷ after
     converts : All (Converts k) before
-    here : NotHeld k (at + length (file_of before)) site r
+    here : Inconvertible k (at + length (file_of before)) site r
 
   first_from : (ss : List Site) (at : ℕ) {r : Refusal} → all_moved k at ss ≡ Err r → FirstFrom at ss r
-  unfolding all_moved held_at unless first
+  unfolding all_moved if_convertible unless first
   first_from [] at e = cc
   first_from (s ∷ ss) at {r} e =
-      by_rules (species_held k s) (temperature_held k s) (all_moved k (at + length (encode s)) ss) refl refl (λ x m. first_from ss (at + length (encode s)) m) e
+      by_rules (species_convertible k s) (temperature_convertible k s) (all_moved k (at + length (encode s)) ss) refl refl (λ x m. first_from ss (at + length (encode s)) m) e
     where
       start : at + length (file_of []) ≡ at
       start = omega arith
 
-      by_rules : (a b : Checked) (c : Contents Site) → species_held k s ≡ a → temperature_held k s ≡ b
+      by_rules : (a b : Checked) (c : Contents Site) → species_convertible k s ≡ a → temperature_convertible k s ≡ b
           → ((x : Refusal) → c ≡ Err x → FirstFrom (at + length (encode s)) ss x)
           → unless a (at + field_start 7 s) (unless b (at + field_start 16 s) (first (moved k s) c)) ≡ Err r → FirstFrom at (s ∷ ss) r
       by_rules (Err x) b c p q m e =
@@ -88,8 +81,8 @@ module _ (k : RecordKind) where
       by_rules (Ok u) (Ok v) (Ok us) p q m e = cc
 
   -- of a file the first from the left
-  pub first_not_held : (ss : List Site) {r : Refusal} → all_moved k 0 ss ≡ Err r → FirstNotHeld k ss r
-  first_not_held ss e =
+  pub first_inconvertible : (ss : List Site) {r : Refusal} → all_moved k 0 ss ≡ Err r → FirstInconvertible k ss r
+  first_inconvertible ss e =
       let x = first_from ss 0 e in
       let start : 0 + length (file_of x.before) ≡ length (file_of x.before) = omega arith in
       record {
@@ -114,19 +107,19 @@ module _ (k : RecordKind) where
   pub moved_start : MovedSoFar k [] 0 0
   moved_start = record { converts = none; start = refl; bytes = refl; few = (omega arith, omega arith) }
 
-  held_ok : (s : Site) (at : ℕ) → held_at {A = Unit {0}} k s at (Ok tt) ≡ Ok tt → Converts k s
-  unfolding held_at unless
-  held_ok s at e = by_rules (species_held k s) (temperature_held k s) refl refl e
+  convertible_ok : (s : Site) (at : ℕ) → if_convertible {A = Unit {0}} k s at (Ok tt) ≡ Ok tt → Converts k s
+  unfolding if_convertible unless
+  convertible_ok s at e = by_rules (species_convertible k s) (temperature_convertible k s) refl refl e
     where
-      by_rules : (a b : Checked) → species_held k s ≡ a → temperature_held k s ≡ b
+      by_rules : (a b : Checked) → species_convertible k s ≡ a → temperature_convertible k s ≡ b
           → unless {A = Unit {0}} a (at + field_start 7 s) (unless b (at + field_start 16 s) (Ok tt)) ≡ Ok tt → Converts k s
       by_rules (Ok u) (Ok v) p q e = record { species = p; temperature = q }
       by_rules (Ok u) (Err x) p q e = cc
       by_rules (Err x) b p q e = cc
 
-  held_err : {A : Type 0} (x : Result A Refusal) (s : Site) (at : ℕ) {r : Refusal} → held_at {A = Unit {0}} k s at (Ok tt) ≡ Err r → held_at k s at x ≡ Err r
-  unfolding held_at unless
-  held_err {A} x s at {r} e = by_rules (species_held k s) (temperature_held k s) e
+  convertible_err : {A : Type 0} (x : Result A Refusal) (s : Site) (at : ℕ) {r : Refusal} → if_convertible {A = Unit {0}} k s at (Ok tt) ≡ Err r → if_convertible k s at x ≡ Err r
+  unfolding if_convertible unless
+  convertible_err {A} x s at {r} e = by_rules (species_convertible k s) (temperature_convertible k s) e
     where
       by_rules : (a b : Checked) → unless {A = Unit {0}} a (at + field_start 7 s) (unless b (at + field_start 16 s) (Ok tt)) ≡ Err r
           → unless a (at + field_start 7 s) (unless b (at + field_start 16 s) x) ≡ Err r
@@ -135,33 +128,33 @@ module _ (k : RecordKind) where
       by_rules (Err y) b e = cc
 
   past : (xs ys : List Site) → All (Converts k) xs → (at : ℕ) {r : Refusal} → all_moved k (at + length (file_of xs)) ys ≡ Err r → all_moved k at (xs ++ ys) ≡ Err r
-  unfolding all_moved held_at unless first
+  unfolding all_moved if_convertible unless first
   past [] ys none at e = let same : at + length (file_of []) ≡ at = omega arith in rw same at e
   past (s ∷ xs) ys (c ▸ cs) at e =
       let same : at + length (file_of (s ∷ xs)) ≡ at + length (encode s) + length (file_of xs) = omega (arith, length-append (encode s) (file_of xs)) in
       rw (c.species, c.temperature, past xs ys cs (at + length (encode s)) (rw same at e))
 
   module _ (ss : List Site) (i : ℕ) (d : Site) (h : i < length ss) {at len : ℕ} (so : MovedSoFar k (take i ss) at len) where
-    pub moved_fault : {r : Refusal} → held_at {A = Unit {0}} k (get_or ss i d) at (Ok tt) ≡ Err r → all_moved k 0 ss ≡ Err r
+    pub moved_fault : {r : Refusal} → if_convertible {A = Unit {0}} k (get_or ss i d) at (Ok tt) ≡ Err r → all_moved k 0 ss ≡ Err r
     unfolding all_moved
     moved_fault {r} e =
         let s = get_or ss i d in
         let rest = drop (suc i) ss in
         let whole : take i ss ++ s ∷ rest ≡ ss = ap (λ xs. take i ss ++ xs) (sym (drop-cons ss i d h)) ∙ take-append-drop i ss in
-        let here : all_moved k at (s ∷ rest) ≡ Err r = held_err (first (moved k s) (all_moved k (at + length (encode s)) rest)) s at e in
+        let here : all_moved k at (s ∷ rest) ≡ Err r = convertible_err (first (moved k s) (all_moved k (at + length (encode s)) rest)) s at e in
         let start : at ≡ 0 + length (file_of (take i ss)) = omega (arith, so.start) in
         rw whole at (past (take i ss) (s ∷ rest) so.converts 0 (rw start at here))
 
-    pub moved_more : held_at {A = Unit {0}} k (get_or ss i d) at (Ok tt) ≡ Ok tt → (n m : ℕ) → n ≡ length (encode (get_or ss i d)) → m ≡ length (moved_record k (get_or ss i d))
+    pub moved_more : if_convertible {A = Unit {0}} k (get_or ss i d) at (Ok tt) ≡ Ok tt → (n m : ℕ) → n ≡ length (encode (get_or ss i d)) → m ≡ length (moved_record k (get_or ss i d))
         → n ≤ most_site_record → m ≤ most_site_record → MovedSoFar k (take (i + 1) ss) (at + n) (len + m)
     moved_more e n m p q few_n few_m =
         let long : length (take (i + 1) ss) ≡ length (take i ss) + 1 = simp length-take (omega arith) in
         record {
-          converts = rw (take_more ss i d h) (all_append so.converts (held_ok (get_or ss i d) at e ▸ none));
+          converts = rw (take_more ss i d h) (all_append so.converts (convertible_ok (get_or ss i d) at e ▸ none));
           start = omega (arith, so.start, length_more encode ss i d h);
           bytes = omega (arith, so.bytes, length_more (moved_record k) ss i d h);
           few = (omega (arith, so.few, long), omega (arith, so.few, long));
         }
 
-  pub moved_end : (ss : List Site) {at len : ℕ} → MovedSoFar k ss at len → AllConvert k ss len
-  moved_end ss so = record { converts = λ i h. all_at so.converts i blank_site h; bytes = so.bytes }
+  pub moved_end : (ss : List Site) {at len : ℕ} → MovedSoFar k ss at len → (all_moved k 0 ss ≡ Ok (map (moved k) ss)) × (len ≡ length (flat_map (moved_record k) ss))
+  moved_end ss so = (all_converts k ss so.converts 0, so.bytes)

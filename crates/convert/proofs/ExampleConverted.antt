@@ -16,8 +16,8 @@ use Rattle.record.specs.File.{first}
 use Rattle.record.specs.Fields.{encode_fields, encode_as}
 use Rattle.record.specs.Writer.{encode}
 use Rattle.record.proofs.ExampleRecord.{bytes_a1}
-use Rattle.convert.specs.Moved.{moved, species_held, temperature_held, field_start}
-use Rattle.convert.specs.Converted.{held_at, all_moved}
+use Rattle.convert.specs.Moved.{moved, species_convertible, temperature_convertible, field_start}
+use Rattle.convert.specs.Converted.{if_convertible, all_moved}
 
 -- into kind 53: four bytes more, which say 8 °C
 a1_into_53 : encode (moved Tag53 a1) ≡ 83 ∷ 0 ∷ 79 ∷ drop 3 bytes_a1 ++ 16 ∷ 0 ∷ 1 ∷ 13 ∷ []
@@ -41,19 +41,19 @@ warm_listed = record listed { temperature = 14 }
 
 -- what can be said of files by their sites: A1's record has 78 bytes
 warm_into_52 : all_moved Tag52 0 (warm ∷ []) ≡ Err (record { rule = NotConvertible; at = 78 })
-unfolding all_moved held_at unless species_held temperature_held field_start counted_temperature encode_fields field_of value entry_bytes entries_bytes
+unfolding all_moved if_convertible unless species_convertible temperature_convertible field_start counted_temperature encode_fields field_of value entry_bytes entries_bytes
 warm_into_52 = refl
 
-second_of_two : all_moved Tag52 0 (a1 ∷ warm ∷ listed ∷ []) ≡ Err (record { rule = NotConvertible; at = 156 })
-unfolding all_moved held_at unless species_held temperature_held field_start counted_temperature first encode_as encode_fields field_of value entry_bytes entries_bytes
-second_of_two = refl
+second_record : all_moved Tag52 0 (a1 ∷ warm ∷ listed ∷ []) ≡ Err (record { rule = NotConvertible; at = 156 })
+unfolding all_moved if_convertible unless species_convertible temperature_convertible field_start counted_temperature first encode_as encode_fields field_of value entry_bytes entries_bytes
+second_record = refl
 
 -- field 07 is ahead of field 10
 stand_first : all_moved Tag52 0 (warm_listed ∷ []) ≡ Err (record { rule = NotConvertible; at = 30 })
-unfolding all_moved held_at unless species_held temperature_held field_start counted_temperature encode_fields field_of value entry_bytes entries_bytes
+unfolding all_moved if_convertible unless species_convertible temperature_convertible field_start counted_temperature encode_fields field_of value entry_bytes entries_bytes
 stand_first = refl
 
 -- 9 °C stays in kind 54, and species 300 at 9 °C in the kind it has
 warm_into_54 : all_moved Tag54 0 (warm ∷ warm_listed ∷ []) ≡ Ok (record warm { kind = Tag54 } ∷ warm_listed ∷ [])
-unfolding all_moved held_at unless species_held temperature_held field_start counted_temperature first moved encode_as encode_fields field_of value entry_bytes entries_bytes
+unfolding all_moved if_convertible unless species_convertible temperature_convertible field_start counted_temperature first moved encode_as encode_fields field_of value entry_bytes entries_bytes
 warm_into_54 = refl

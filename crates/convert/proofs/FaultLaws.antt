@@ -23,21 +23,21 @@ use Rattle.site.specs.declared.Site.{Site}
 use Rattle.record.specs.File.{contents}
 use Rattle.record.specs.Writer.{encode}
 use Rattle.record.proofs.SiteFile.{sites_written}
-use Rattle.convert.specs.Moved.{held_by, species_held, temperature_held, field_start}
-use Rattle.convert.specs.Converted.{held_at, all_moved, file_of, NotHeld, stand, temperature, FirstNotHeld}
-use Rattle.convert.proofs.ConvertedLaws.{first_not_held}
+use Rattle.convert.specs.Moved.{convertible, species_convertible, temperature_convertible, field_start}
+use Rattle.convert.specs.Converted.{if_convertible, all_moved, file_of, Inconvertible, stand, temperature, FirstInconvertible}
+use Rattle.convert.proofs.ConvertedLaws.{first_inconvertible}
 use Rattle.convert.proofs.FieldStarts.{starts, stand_start, temperature_start}
 
-not_held : (b : Bool) {r : Rule} → held_by b ≡ Err r → r ≡ NotConvertible
-not_held true e = cc
-not_held false e = cc
+not_convertible : (b : Bool) {r : Rule} → convertible b ≡ Err r → r ≡ NotConvertible
+not_convertible true e = cc
+not_convertible false e = cc
 
 -- a site whose temperature a record without field 10 cannot hold has this field
-pub has_field_10 : (k : RecordKind) (s : Site) {r : Rule} → temperature_held k s ≡ Err r → has_temperature s.kind ≡ true
-unfolding temperature_held counted_temperature
+pub has_field_10 : (k : RecordKind) (s : Site) {r : Rule} → temperature_convertible k s ≡ Err r → has_temperature s.kind ≡ true
+unfolding temperature_convertible counted_temperature
 has_field_10 k s {r} e = by_kind s.kind e
   where
-    by_kind : (j : RecordKind) → held_by (has_temperature k || eqb (pick (has_temperature j) s.temperature reference_temperature) reference_temperature) ≡ Err r → has_temperature j ≡ true
+    by_kind : (j : RecordKind) → convertible (has_temperature k || eqb (pick (has_temperature j) s.temperature reference_temperature) reference_temperature) ≡ Err r → has_temperature j ≡ true
     by_kind Tag52 e = let passed = rw or-true at e in cc
     by_kind Tag53 e = refl
     by_kind Tag54 e = refl
@@ -54,8 +54,8 @@ temperature_due Tag53 has = refl
 temperature_due Tag54 has = refl
 
 module _ (list f : List ℕ) (b : AllBytes f) (k : RecordKind) (ss : List Site) (e : contents list f ≡ Ok ss) {r : Refusal} (fault : all_moved k 0 ss ≡ Err r) where
-  first : FirstNotHeld k ss r
-  first = first_not_held k ss fault
+  first : FirstInconvertible k ss r
+  first = first_inconvertible k ss fault
 
   bytes : f ≡ file_of first.before ++ (encode first.site ++ file_of first.after)
   bytes = sites_written list f b ss e ∙ ap file_of first.order ∙ flat_map-append encode first.before (first.site ∷ first.after)
@@ -70,26 +70,26 @@ module _ (list f : List ℕ) (b : AllBytes f) (k : RecordKind) (ss : List Site) 
       ∙ starts first.site t (drop t (due first.site.kind)) (file_of first.after) order
 
   pub fault_at_field : (r.rule ≡ NotConvertible) × ((get_or f r.at 0 ≡ 7) ⊎ (get_or f r.at 0 ≡ 16))
-  unfolding species_held temperature_held
+  unfolding species_convertible temperature_convertible
   fault_at_field = by_field first.here
     where
-      by_field : NotHeld k (length (file_of first.before)) first.site r → (r.rule ≡ NotConvertible) × ((get_or f r.at 0 ≡ 7) ⊎ (get_or f r.at 0 ≡ 16))
-      by_field (stand broken at) = (not_held _ broken, inl (there 7 (stand_due first.site.kind) at))
-      by_field (temperature held broken at) = (not_held _ broken, inr (there 16 (temperature_due first.site.kind (has_field_10 k first.site broken)) at))
+      by_field : Inconvertible k (length (file_of first.before)) first.site r → (r.rule ≡ NotConvertible) × ((get_or f r.at 0 ≡ 7) ⊎ (get_or f r.at 0 ≡ 16))
+      by_field (stand broken at) = (not_convertible _ broken, inl (there 7 (stand_due first.site.kind) at))
+      by_field (temperature held broken at) = (not_convertible _ broken, inr (there 16 (temperature_due first.site.kind (has_field_10 k first.site broken)) at))
 
 -- rule 17 by what the fields say: field 07 starts behind the name, and field 10, where it breaks the rule, 4 bytes before the record's end
-pub held_by_field : (k : RecordKind) (s : Site) (at n : ℕ) → n ≡ length (encode s)
-    → held_at {A = Unit {0}} k s at (Ok tt) ≡ unless (species_held k s) (at + 28 + length (take s.name.len s.name.bytes)) (unless (temperature_held k s) (at + n - 4) (Ok tt))
-unfolding held_at unless
-held_by_field k s at n e = by_rules (species_held k s) (temperature_held k s) refl
+pub convertible_by_field : (k : RecordKind) (s : Site) (at n : ℕ) → n ≡ length (encode s)
+    → if_convertible {A = Unit {0}} k s at (Ok tt) ≡ unless (species_convertible k s) (at + 28 + length (take s.name.len s.name.bytes)) (unless (temperature_convertible k s) (at + n - 4) (Ok tt))
+unfolding if_convertible unless
+convertible_by_field k s at n e = by_rules (species_convertible k s) (temperature_convertible k s) refl
   where
     stand_at : at + field_start 7 s ≡ at + 28 + length (take s.name.len s.name.bytes)
     stand_at = omega (arith, stand_start s)
 
-    temperature_at : {r : Rule} → temperature_held k s ≡ Err r → at + field_start 16 s ≡ at + n - 4
+    temperature_at : {r : Rule} → temperature_convertible k s ≡ Err r → at + field_start 16 s ≡ at + n - 4
     temperature_at broken = omega (arith, temperature_start s (has_field_10 k s broken))
 
-    by_rules : (a b : Checked) → temperature_held k s ≡ b
+    by_rules : (a b : Checked) → temperature_convertible k s ≡ b
         → unless {A = Unit {0}} a (at + field_start 7 s) (unless b (at + field_start 16 s) (Ok tt)) ≡ unless a (at + 28 + length (take s.name.len s.name.bytes)) (unless b (at + n - 4) (Ok tt))
     by_rules (Err r) b q = rw stand_at
     by_rules (Ok u) (Ok v) q = refl

@@ -35,18 +35,18 @@ use Rattle.field.specs.Clean.{clean, Sized}
 use Rattle.field.proofs.All.{All, none, ◌▸◌, all_append}
 use Rattle.record.proofs.SiteTrips.{fields_passed}
 use Rattle.listing.specs.Rows.{row_by, row_of}
-use Rattle.convert.specs.Moved.{moved, held_by, small, species_held, temperature_held, Converts}
+use Rattle.convert.specs.Moved.{moved, convertible, small, species_convertible, temperature_convertible, Converts}
 
 -- what rule 17 says where it passes
-held_true : (b : Bool) → held_by b ≡ Ok tt → b ≡ true
-held_true b e = (pass_then b NotConvertible (Ok tt) e).0
+convertible_true : (b : Bool) → convertible b ≡ Ok tt → b ≡ true
+convertible_true b e = (pass_then b NotConvertible (Ok tt) e).0
 
 -- ---- the temperature that counts stays
 
-module _ (k : RecordKind) (s : Site) (held : temperature_held k s ≡ Ok tt) where
+module _ (k : RecordKind) (s : Site) (held : temperature_convertible k s ≡ Ok tt) where
   pub counted_moved : counted_temperature (moved k s) ≡ counted_temperature s
-  unfolding counted_temperature temperature_held moved
-  counted_moved = by_kind k (held_true _ held)
+  unfolding counted_temperature temperature_convertible moved
+  counted_moved = by_kind k (convertible_true _ held)
     where
       by_kind : (j : RecordKind) → has_temperature j || eqb (counted_temperature s) reference_temperature ≡ true
           → counted_temperature (record s { kind = j; temperature = counted_temperature s }) ≡ counted_temperature s
@@ -129,8 +129,8 @@ module _ (list : List ℕ) (k : RecordKind) (s : Site) (e : site_rule list s ≡
   Passes t = (count_rule t (moved k s) ≡ Ok tt) × (value_rule list k t (moved k s) ≡ Ok tt)
 
   wide : two_byte_species k || list_all small (take s.stand.count s.stand.entries) ≡ true
-  unfolding species_held
-  wide = held_true _ c.species
+  unfolding species_convertible
+  wide = convertible_true _ c.species
 
   -- a field of 01 to 0F that has the rules of the site it comes from: all but the stand
   kept : (t : ℕ) → 1 ≤ t → t ≤ 15 → (count_rule t s ≡ Ok tt) × (value_rule list s.kind t s ≡ Ok tt)
@@ -177,14 +177,14 @@ module _ (k : RecordKind) (s : Site) (tidy : clean s ≡ s) where
   unfolding clean
   counted_here = ap (λ (x : Site). x.temperature) tidy
 
-  pub moved_clean : temperature_held k s ≡ Ok tt → clean (moved k s) ≡ moved k s
+  pub moved_clean : temperature_convertible k s ≡ Ok tt → clean (moved k s) ≡ moved k s
   unfolding clean moved
   moved_clean held =
       let name : (clean s).name ≡ s.name = ap (λ (x : Site). x.name) tidy in
       let stand : (clean s).stand ≡ s.stand = ap (λ (x : Site). x.stand) tidy in
       rw (name, stand, counted_moved k s held)
 
-  pub moved_back : temperature_held k s ≡ Ok tt → moved s.kind (moved k s) ≡ s
+  pub moved_back : temperature_convertible k s ≡ Ok tt → moved s.kind (moved k s) ≡ s
   unfolding moved
   moved_back held = rw (counted_moved k s held, counted_here)
 
@@ -212,20 +212,20 @@ all_small k narrow (x ∷ xs) p =
 
 -- a kind holds every site of its own that passes
 module _ (list : List ℕ) (s : Site) (e : site_rule list s ≡ Ok tt) where
-  own_species : species_held s.kind s ≡ Ok tt
-  unfolding species_held
+  own_species : species_convertible s.kind s ≡ Ok tt
+  unfolding species_convertible
   own_species = by_kind s.kind refl
     where
-      by_kind : (k : RecordKind) → s.kind ≡ k → held_by (two_byte_species k || list_all small (take s.stand.count s.stand.entries)) ≡ Ok tt
+      by_kind : (k : RecordKind) → s.kind ≡ k → convertible (two_byte_species k || list_all small (take s.stand.count s.stand.entries)) ≡ Ok tt
       by_kind Tag52 is = rw (all_small Tag52 refl (take s.stand.count s.stand.entries) (rw is at (site_ranged list s e)))
       by_kind Tag53 is = rw (all_small Tag53 refl (take s.stand.count s.stand.entries) (rw is at (site_ranged list s e)))
       by_kind Tag54 is = refl
 
-  own_temperature : temperature_held s.kind s ≡ Ok tt
-  unfolding temperature_held counted_temperature
+  own_temperature : temperature_convertible s.kind s ≡ Ok tt
+  unfolding temperature_convertible counted_temperature
   own_temperature = by_kind s.kind
     where
-      by_kind : (k : RecordKind) → held_by (has_temperature k || eqb (pick (has_temperature k) s.temperature reference_temperature) reference_temperature) ≡ Ok tt
+      by_kind : (k : RecordKind) → convertible (has_temperature k || eqb (pick (has_temperature k) s.temperature reference_temperature) reference_temperature) ≡ Ok tt
       by_kind Tag52 = refl
       by_kind Tag53 = refl
       by_kind Tag54 = refl
@@ -234,6 +234,6 @@ module _ (list : List ℕ) (s : Site) (e : site_rule list s ≡ Ok tt) where
   own_converts = record { species = own_species; temperature = own_temperature }
 
   -- and what has been moved can be moved back
-  pub back_converts : (k : RecordKind) → temperature_held k s ≡ Ok tt → Converts s.kind (moved k s)
-  unfolding species_held temperature_held moved
+  pub back_converts : (k : RecordKind) → temperature_convertible k s ≡ Ok tt → Converts s.kind (moved k s)
+  unfolding species_convertible temperature_convertible moved
   back_converts k held = record { species = own_species; temperature = rw (counted_moved k s held) own_temperature }

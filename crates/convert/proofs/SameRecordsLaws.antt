@@ -19,7 +19,7 @@ use Rattle.record.specs.File.{contents}
 use Rattle.record.proofs.SiteFile.{sites_none, sites_checked, sites_clean, sites_written, sites_read}
 use Rattle.listing.specs.Rows.{row_of}
 use Rattle.listing.specs.Reports.{printed, report_of}
-use Rattle.convert.specs.Moved.{moved, temperature_held, Converts}
+use Rattle.convert.specs.Moved.{moved, temperature_convertible, Converts}
 use Rattle.convert.specs.Converted.{converted, file_of}
 use Rattle.convert.specs.SameRecords.{OfKind, SameRecords}
 use Rattle.convert.proofs.MovedLaws.{moved_terms, moved_judged, moved_row, moved_passes, moved_clean, moved_back, moved_itself, moved_sized, back_converts}
@@ -40,7 +40,7 @@ map_each f [] none = none
 map_each f (s ∷ ss) (p ▸ ps) = p ▸ map_each f ss ps
 
 -- by their places
-pub all_places : {P : Site → Type 0} (ss : List Site) → ((i : ℕ) → i < length ss → P (get_or ss i blank_site)) → All P ss
+all_places : {P : Site → Type 0} (ss : List Site) → ((i : ℕ) → i < length ss → P (get_or ss i blank_site)) → All P ss
 all_places [] h = none
 all_places (s ∷ ss) h = h 0 (omega arith) ▸ all_places ss (λ i l. h (suc i) (omega arith))
 
@@ -53,7 +53,7 @@ module _ (list f : List ℕ) (b : AllBytes f) (k : RecordKind) (ss : List Site) 
   pub tidy : All (λ s. clean s ≡ s) ss
   tidy = sites_clean list f ss e
 
-  held : All (λ s. temperature_held k s ≡ Ok tt) ss
+  held : All (λ s. temperature_convertible k s ≡ Ok tt) ss
   held = map-all (λ s (x : Converts k s). x.temperature) c
 
   some : 1 ≤ length ss

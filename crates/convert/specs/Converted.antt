@@ -8,16 +8,16 @@ use Rattle.site.specs.declared.Site.{Site}
 use Rattle.field.specs.Field.{blank_site}
 use Rattle.record.specs.File.{Contents, first}
 use Rattle.record.specs.Writer.{encode, most_site_record}
-use Rattle.convert.specs.Moved.{moved, species_held, temperature_held, Converts, field_start}
+use Rattle.convert.specs.Moved.{moved, species_convertible, temperature_convertible, Converts, field_start}
 
 -- x, unless a record of kind k cannot hold a field of the site s, whose record starts at `at`: field 07, then field 10
-unfoldable pub held_at : {A : Type 0} → RecordKind → Site → ℕ → Result A Refusal → Result A Refusal
-held_at k s at x = unless (species_held k s) (at + field_start 7 s) (unless (temperature_held k s) (at + field_start 16 s) x)
+unfoldable pub if_convertible : {A : Type 0} → RecordKind → Site → ℕ → Result A Refusal → Result A Refusal
+if_convertible k s at x = unless (species_convertible k s) (at + field_start 7 s) (unless (temperature_convertible k s) (at + field_start 16 s) x)
 
 -- the sites of records that stand one after another from offset `at` on, each moved to kind k
 unfoldable pub all_moved : RecordKind → ℕ → List Site → Contents Site
 all_moved k at [] = Ok []
-all_moved k at (s ∷ ss) = held_at k s at (first (moved k s) (all_moved k (at + length (encode s)) ss))
+all_moved k at (s ∷ ss) = if_convertible k s at (first (moved k s) (all_moved k (at + length (encode s)) ss))
 
 -- the sites of the converted file, from what the checks of the file say
 unfoldable pub converted : RecordKind → Contents Site → Contents Site
@@ -32,27 +32,22 @@ moved_record k s = encode (moved k s)
 abbrev pub file_of : List Site → List ℕ
 file_of ss = flat_map encode ss
 
--- those of 500 records of the greatest length; 52000
+-- the most bytes of a converted file: 500 records of the greatest length; 52000
 abbrev pub most_converted : ℕ
 most_converted = most_records * most_site_record
-
--- a record of kind k can hold every site, and their records there have n bytes
-pub record AllConvert (k : RecordKind) (ss : List Site) (n : ℕ) : Type 0 where
-  pub converts : (i : ℕ) → i < length ss → Converts k (get_or ss i blank_site)
-  pub bytes : n ≡ length (flat_map (moved_record k) ss)
 
 -- ---- rule 17 as conditions: the first field, from the left, that a record of kind k cannot hold
 
 -- in the record of site s, which starts at an offset
-pub data NotHeld (k : RecordKind) (start : ℕ) (s : Site) (r : Refusal) : Type 0 where
-  stand : species_held k s ≡ Err r.rule → r.at ≡ start + field_start 7 s → NotHeld k start s r
-  temperature : species_held k s ≡ Ok tt → temperature_held k s ≡ Err r.rule → r.at ≡ start + field_start 16 s → NotHeld k start s r
+pub data Inconvertible (k : RecordKind) (start : ℕ) (s : Site) (r : Refusal) : Type 0 where
+  stand : species_convertible k s ≡ Err r.rule → r.at ≡ start + field_start 7 s → Inconvertible k start s r
+  temperature : species_convertible k s ≡ Ok tt → temperature_convertible k s ≡ Err r.rule → r.at ≡ start + field_start 16 s → Inconvertible k start s r
 
 -- the records before it convert
-pub record FirstNotHeld (k : RecordKind) (ss : List Site) (r : Refusal) : Type 0 where
+pub record FirstInconvertible (k : RecordKind) (ss : List Site) (r : Refusal) : Type 0 where
   pub before : List Site
   pub site : Site
   pub after : List Site
   pub order : ss ≡ before ++ site ∷ after
   pub converts : (i : ℕ) → i < length before → Converts k (get_or before i blank_site)
-  pub here : NotHeld k (length (file_of before)) site r
+  pub here : Inconvertible k (length (file_of before)) site r

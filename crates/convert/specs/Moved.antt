@@ -16,24 +16,24 @@ unfoldable pub moved : RecordKind → Site → Site
 moved k s = record s { kind = k; temperature = counted_temperature s }
 
 -- rule 17
-abbrev pub held_by : Bool → Checked
-held_by b = pick b (Ok tt) (Err NotConvertible)
+abbrev pub convertible : Bool → Checked
+convertible b = pick b (Ok tt) (Err NotConvertible)
 
 -- field 07: where a species has one byte, all species are below 256
 abbrev pub small : Entry → Bool
 small e = ltb e.species 256
 
-unfoldable pub species_held : RecordKind → Site → Checked
-species_held k s = held_by (two_byte_species k || list_all small (take s.stand.count s.stand.entries))
+unfoldable pub species_convertible : RecordKind → Site → Checked
+species_convertible k s = convertible (two_byte_species k || list_all small (take s.stand.count s.stand.entries))
 
 -- field 10: where a record has none, the temperature is 8 °C
-unfoldable pub temperature_held : RecordKind → Site → Checked
-temperature_held k s = held_by (has_temperature k || eqb (counted_temperature s) reference_temperature)
+unfoldable pub temperature_convertible : RecordKind → Site → Checked
+temperature_convertible k s = convertible (has_temperature k || eqb (counted_temperature s) reference_temperature)
 
 -- a record of kind k can hold the site
 pub record Converts (k : RecordKind) (s : Site) : Type 0 where
-  pub species : species_held k s ≡ Ok tt
-  pub temperature : temperature_held k s ≡ Ok tt
+  pub species : species_convertible k s ≡ Ok tt
+  pub temperature : temperature_convertible k s ≡ Ok tt
 
 -- where the field t of a site's record starts, counted from the start of the record: behind the outer head and the fields before it
 unfoldable pub field_start : ℕ → Site → ℕ

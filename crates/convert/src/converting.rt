@@ -1,27 +1,28 @@
 // The records of a file moved to one kind, into a lent buffer.
-ghost use Rattle.std.specs.Prelude.{◌≡◌, ◌≤◌, MatchResult, Err, IfOk, length, take, flat_map};
+ghost use Rattle.std.specs.Prelude.{◌≡◌, ◌≤◌, MatchResult, Ok, Err, IfOk, length, take, map, flat_map};
 ghost use Rattle.site.specs.Ranges.{most_records};
 ghost use Rattle.output.specs.Output.{written_numbers};
 ghost use Rattle.output.specs.Writing.{Wrote};
 ghost use Rattle.record.specs.File.{contents};
 ghost use Rattle.listing.specs.FileText.{file_answer, file_numbers, file_held, FileRoom};
-ghost use Rattle.convert.specs.Converted.{all_moved, AllConvert, moved_record, converted, file_of, most_converted};
+ghost use Rattle.convert.specs.Moved.{moved};
+ghost use Rattle.convert.specs.Converted.{all_moved, moved_record, converted, file_of, most_converted};
 ghost use Rattle.convert.specs.SameRecords.{SameRecords};
 
-use crate::moving::{held, moved};
+use crate::moving::{check_convertible, moved};
 use record::{put_record, read_sites, record_len};
 use site::{RecordKind, Refusal, Rule, Site, SpeciesList};
 
 // How many bytes the sites' records take in the kind, or rule 17 at the first that it cannot hold.
 fn moved_len(kind: RecordKind, sites: &[Site]) -> Result<usize, Refusal>
     requires { length sites.now ≤ most_records }
-    ensures { MatchResult result (λ n. AllConvert kind sites.now n) (λ refusal. all_moved kind 0 sites.now ≡ Err refusal) }
+    ensures { MatchResult result (λ n. (all_moved kind 0 sites.now ≡ Ok (map (moved kind) sites.now)) × (n ≡ length (flat_map (moved_record kind) sites.now))) (λ refusal. all_moved kind 0 sites.now ≡ Err refusal) }
 {
     let mut at = 0;
     let mut len = 0;
     for site in sites {
         let n = record_len(*site);
-        held(kind, *site, at, n)?;
+        check_convertible(kind, *site, at, n)?;
         at += n;
         len += record_len(moved(kind, *site));
     }

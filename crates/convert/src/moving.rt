@@ -2,8 +2,8 @@
 ghost use Rattle.std.specs.Prelude.{◌≡◌, ◌+◌, ◌<◌, ◌≤◌, ◌^◌, length, take, Ok};
 ghost use Rattle.std.specs.List.{list_all};
 ghost use Rattle.record.specs.Writer.{encode};
-ghost use Rattle.convert.specs.Moved.{moved, held_by, small, species_held, temperature_held};
-ghost use Rattle.convert.specs.Converted.{held_at};
+ghost use Rattle.convert.specs.Moved.{moved, convertible, small, species_convertible, temperature_convertible};
+ghost use Rattle.convert.specs.Converted.{if_convertible};
 
 use site::{REFERENCE_TEMPERATURE, RecordKind, Refusal, Rule, Site, Stand};
 
@@ -19,8 +19,8 @@ pub fn moved(kind: RecordKind, site: Site) -> Site
     }
 }
 
-fn held_by(b: bool) -> Result<(), Rule>
-    ensures { result ≡ held_by b }
+fn convertible(b: bool) -> Result<(), Rule>
+    ensures { result ≡ convertible b }
 {
     if b { Ok(()) } else { Err(Rule::NotConvertible) }
 }
@@ -33,32 +33,32 @@ fn all_small(stand: &Stand) -> bool
 }
 
 // Field 07: where a species has one byte, all are below 256.
-#[tactic(auto, unfolding(crate::specs::Moved::species_held))]
-fn species_held(kind: RecordKind, site: Site) -> Result<(), Rule>
-    ensures { result ≡ species_held kind site }
+#[tactic(auto, unfolding(crate::specs::Moved::species_convertible))]
+fn species_convertible(kind: RecordKind, site: Site) -> Result<(), Rule>
+    ensures { result ≡ species_convertible kind site }
 {
-    held_by(kind.two_byte_species() || all_small(&site.stand))
+    convertible(kind.two_byte_species() || all_small(&site.stand))
 }
 
 // Field 10: where a record has none, the temperature is 8 °C.
-#[tactic(auto, unfolding(crate::specs::Moved::temperature_held))]
-fn temperature_held(kind: RecordKind, site: Site) -> Result<(), Rule>
-    ensures { result ≡ temperature_held kind site }
+#[tactic(auto, unfolding(crate::specs::Moved::temperature_convertible))]
+fn temperature_convertible(kind: RecordKind, site: Site) -> Result<(), Rule>
+    ensures { result ≡ temperature_convertible kind site }
 {
-    held_by(kind.has_temperature() || site.counted_temperature() == REFERENCE_TEMPERATURE)
+    convertible(kind.has_temperature() || site.counted_temperature() == REFERENCE_TEMPERATURE)
 }
 
 // Rule 17 at the record of a site that starts at `at` of the file and is `len` bytes long. Field 07 starts 28 bytes and the name behind the start, field 10 with
 // its 4 bytes ends the record.
-pub fn held(kind: RecordKind, site: Site, at: usize, len: usize) -> Result<(), Refusal>
+pub fn check_convertible(kind: RecordKind, site: Site, at: usize, len: usize) -> Result<(), Refusal>
     requires length { len ≡ length (encode site) }
     requires range { (4 ≤ len) × (at + len < 2 ^ 63) }
-    ensures { result ≡ held_at kind site at (Ok tt) }
+    ensures { result ≡ if_convertible kind site at (Ok tt) }
 {
     let stand = at + 28 + site.name.as_slice().len();
-    species_held(kind, site).map_err(|rule| Refusal { rule, at: stand })?;
+    species_convertible(kind, site).map_err(|rule| Refusal { rule, at: stand })?;
     let temperature = at + len - 4;
-    temperature_held(kind, site).map_err(|rule| Refusal {
+    temperature_convertible(kind, site).map_err(|rule| Refusal {
         rule,
         at: temperature,
     })

@@ -20,7 +20,7 @@ use Rattle.record.proofs.SiteFile.{sites_fault_near}
 use Rattle.listing.specs.FileText.{file_answer, file_held, FileRoom}
 use Rattle.listing.specs.Reports.{printed, report_of}
 use Rattle.listing.specs.PrintedDemand3.{WrittenSays, WrittenDemand3}
-use Rattle.listing.proofs.FiledLaws.{file_count, file_fault_near}
+use Rattle.listing.proofs.FileWrittenLaws.{file_count, answer_near}
 use Rattle.exports.specs.Codes.{code_base, written_code, Small}
 use Rattle.exports.specs.Lent.{lent_contents, lent_report, LentSays}
 use Rattle.exports.proofs.CodeLaws.{count_below}
@@ -57,7 +57,7 @@ module _ (most : ℕ) (text : List Site → List ℕ) (step : Contents Site → 
         buffer = rw is buffer;
         small = record {
           count = λ n q. omega (arith, file_count most text (step (contents list f)) d (sym answer ∙ q) (rw q at room));
-          offset = λ k q. omega (arith, file_fault_near most text (step (contents list f)) d (most_record * most_records) near (sym answer ∙ q));
+          offset = λ k q. omega (arith, answer_near most text (step (contents list f)) d (most_record * most_records) near (sym answer ∙ q));
         };
       }
 

@@ -1,5 +1,5 @@
 pub mod RowLaws
 pub mod Demand3Laws
-pub mod FiledLaws
+pub mod FileWrittenLaws
 pub mod ListLaws
 pub mod ReportLaws

@@ -20,7 +20,7 @@ use Rattle.listing.specs.Rows.{row_of, walked_of}
 use Rattle.listing.specs.FileText.{file_answer, file_numbers, file_held, FileRoom}
 use Rattle.listing.specs.Reports.{listing_of, printed, report_of}
 use Rattle.listing.specs.PrintedDemand3.{LinesSay, WrittenSays, WrittenDemand3}
-use Rattle.listing.proofs.FiledLaws.{Filed, filed, not_filed}
+use Rattle.listing.proofs.FileWrittenLaws.{FileWritten, file_written, file_refused}
 use Rattle.listing.proofs.Demand3Laws.{listing_says}
 
 -- ---- what the walk has found
@@ -59,7 +59,7 @@ module _ (most : ℕ) (text : List Site → List ℕ) (Say : List ℕ → List S
       (r ≡ file_answer text (contents list f) d)
       × ((e ≡ file_held text (contents list f) d) × ((written_numbers r ≡ file_numbers text (contents list f) d) × (FileRoom most text (contents list f) d r × WrittenSays Say list f e r)))
 
-  with_says : {e : List ℕ} {r : Written} → Filed most text (contents list f) d e r → WrittenSays Say list f e r → FileClauses e r
+  with_says : {e : List ℕ} {r : Written} → FileWritten most text (contents list f) d e r → WrittenSays Say list f e r → FileClauses e r
   with_says x says = (x.answer, (x.buffer, (x.numbers, (x.enough, says))))
 
   module _ (ss : List Site) (h : contents list f ≡ Ok ss) {e : List ℕ} {r : Written} (a : AnsweredWithin most (text ss) d e r) where
@@ -67,10 +67,10 @@ module _ (most : ℕ) (text : List Site → List ℕ) (Say : List ℕ → List S
     says_so says n b ts g = let same : ss ≡ ts = cc in rw (written (text ss) d e r a.answer a.buffer n b, ← same) says
 
     pub filed_sites : Say list ss (text ss) → FileClauses e r
-    filed_sites says = with_says (filed most text (contents list f) d ss h a) (says_so says)
+    filed_sites says = with_says (file_written most text (contents list f) d ss h a) (says_so says)
 
   pub filed_fault : {k : Refusal} → contents list f ≡ Err k → FileClauses d (Err k)
-  filed_fault h = with_says (not_filed most text (contents list f) d h) (λ n b. cc)
+  filed_fault h = with_says (file_refused most text (contents list f) d h) (λ n b. cc)
 
 -- the listing
 pub listed_sites : (list f d : List ℕ) {e : List ℕ} {r : Written} (ss : List Site) → contents list f ≡ Ok ss → Answered (listing_of list ss) d e r → FileClauses most_text (listing_of list) LinesSay list f d e r

@@ -3,6 +3,9 @@ use Prim.Native.Nat.{ℕ, suc, ◌+◌, ◌-◌, ◌≤◌, ◌<◌}
 use mathlib.Core.Path.{◌≡◌, refl, sym, ap, ◌∙◌}
 use mathlib.Core.List.{List, [], ◌∷◌, ◌++◌, append-nil, map}
 use native.Mathlib.Omega.{arith}
+use mathlib.Core.Bool.{false}
+use borrow.Author.Tests.{le-leb, lt-leb, ne_eqb}
+use lib.Dec.{eqb}
 use lib.ListN.{length, length-append}
 use lib.Seq.{append_snoc}
 use Rattle.std.specs.Prelude.{Option, Some, None, Result, Ok, Err}
@@ -15,7 +18,7 @@ use Rattle.record.specs.declared.Found.{Found}
 use Rattle.record.specs.Outer.{site_at, record_at}
 use Rattle.record.specs.Result.{result_numbers}
 use Rattle.record.specs.File.{Contents, first, onto, made_of}
-use Rattle.record.specs.Unread.{sites_from, came, given}
+use Rattle.record.specs.Unread.{step_of, after_step, sites_from, came, given}
 use Rattle.record.proofs.FileLaws.{file_end, file_full, file_step}
 use Rattle.record.proofs.Place.{record_ok, record_err}
 
@@ -39,6 +42,45 @@ module _ (list f : List ℕ) (n at : ℕ) where
     pub unread_found : {x : Found} → record_at list f at ≡ Ok x → sites_from list f n at ≡ first x.site (sites_from list f (n - 1) x.next)
     unfolding onto
     unread_found e = step ∙ ap (λ q. onto q (sites_from list f (n - 1))) (record_ok list f at e)
+
+-- what a step gives, and where it leads
+
+module _ (list f : List ℕ) (n at : ℕ) where
+  pub step_end : length f ≤ at → Ok None ≡ step_of list f n at
+  unfolding step_of
+  step_end h = rw (le-leb (length f) at h)
+
+  pub after_end : length f ≤ at → (n, at) ≡ after_step list f n at
+  unfolding after_step
+  after_end h = rw (le-leb (length f) at h)
+
+  pub step_full : at < length f → n ≡ 0 → Err (record { rule = TooMany; at = at }) ≡ step_of list f n at
+  unfolding step_of
+  step_full h z = rw (lt-leb (length f) at h, z)
+
+  pub after_full : at < length f → n ≡ 0 → (n, at) ≡ after_step list f n at
+  unfolding after_step
+  after_full h z = rw (lt-leb (length f) at h, z)
+
+  module _ (h : at < length f) (some : 1 ≤ n) where
+    here : eqb n 0 ≡ false
+    here = ne_eqb n 0 (λ z. omega arith)
+
+    pub step_refused : {r : Refusal} → record_at list f at ≡ Err r → Err r ≡ step_of list f n at
+    unfolding step_of
+    step_refused e = rw (lt-leb (length f) at h, here, record_err list f at e)
+
+    pub after_refused : {r : Refusal} → record_at list f at ≡ Err r → (n, at) ≡ after_step list f n at
+    unfolding after_step
+    after_refused e = rw (lt-leb (length f) at h, here, record_err list f at e)
+
+    pub step_found : {x : Found} → record_at list f at ≡ Ok x → Ok (Some x.site) ≡ step_of list f n at
+    unfolding step_of
+    step_found e = rw (lt-leb (length f) at h, here, record_ok list f at e)
+
+    pub after_found : {x : Found} → record_at list f at ≡ Ok x → (n - 1, x.next) ≡ after_step list f n at
+    unfolding after_step
+    after_found e = rw (lt-leb (length f) at h, here, record_ok list f at e)
 
 -- ---- a loop that makes an element of each site: those so far, in front of those of the sites to come
 

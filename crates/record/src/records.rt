@@ -3,7 +3,7 @@ ghost use Rattle.std.specs.Prelude.{◌≡◌, ◌+◌, IfOk, IfSome, Ok, Err, M
 ghost use Rattle.site.specs.Check.{site_rule};
 ghost use Rattle.record.specs.File.{contents};
 ghost use Rattle.record.specs.Result.{result_numbers};
-ghost use Rattle.record.specs.Unread.{walked, lent, unread, may_come, came, given};
+ghost use Rattle.record.specs.Unread.{step_of, after_step, file_in, list_in, may_come, next_at, unread, came, given};
 
 use crate::Found;
 use crate::outer::read_at;
@@ -24,8 +24,8 @@ impl<'a> Records<'a> {
     #[tactic(auto, using(crate::proofs::SiteFile::sites_none, crate::proofs::SiteFile::sites_some))]
     pub fn of(file: &'a [u8], list: SpeciesList<'a>) -> Result<Records<'a>, Refusal>
         ensures answer { MatchResult result (λ records. contents list.entry.bytes.now file.now ≡ unread records) (λ refusal. contents list.entry.bytes.now file.now ≡ Err refusal) }
-        ensures file { IfOk result (λ records. (walked records ≡ file.now) × (lent records ≡ list.entry.bytes.now)) }
-        ensures left { IfOk result (λ records. may_come records ≡ 500) }
+        ensures file { IfOk result (λ records. (file_in records ≡ file.now) × (list_in records ≡ list.entry.bytes.now)) }
+        ensures start { IfOk result (λ records. (may_come records ≡ 500) × (next_at records ≡ 0)) }
     {
         if file.is_empty() {
             return Err(Rule::NoBytes.into());
@@ -41,12 +41,12 @@ impl<'a> Records<'a> {
     // The next record, or none at the end of the file. Kept a function of its own: written into the walk over a file it has the program's rows laid out once more
     // on the stack.
     #[inline(never)]
-    #[tactic(auto, using(crate::proofs::UnreadLaws::unread_end, crate::proofs::UnreadLaws::unread_full), unfolding(crate::specs::Unread::came))]
     pub fn next(&mut self) -> Result<Option<Site>, Refusal>
-        ensures answer { unread self.old ≡ came result (unread self.new) }
-        ensures left { may_come self.old ≡ may_come self.new + given result }
-        ensures file { (walked self.new ≡ walked self.old) × (lent self.new ≡ lent self.old) }
-        ensures passes { IfOk result (λ next. IfSome next (λ site. site_rule (lent self.old) site ≡ Ok tt)) }
+        ensures answer { result ≡ step_of (list_in self.old) (file_in self.old) (may_come self.old) (next_at self.old) }
+        ensures after { (may_come self.new, next_at self.new) ≡ after_step (list_in self.old) (file_in self.old) (may_come self.old) (next_at self.old) }
+        ensures file { (file_in self.new ≡ file_in self.old) × (list_in self.new ≡ list_in self.old) }
+        ensures walk { (unread self.old ≡ came result (unread self.new)) × (may_come self.old ≡ may_come self.new + given result) }
+        ensures passes { IfOk result (λ next. IfSome next (λ site. site_rule (list_in self.old) site ≡ Ok tt)) }
     {
         if self.file.len() <= self.at {
             return Ok(None);

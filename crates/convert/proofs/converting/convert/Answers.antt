@@ -1,6 +1,6 @@
 use Rattle.std.proofs.Common.{arith}
 use Rattle.std.proofs.lemmas.Result.{err_from_is_err_and}
-use Rattle.convert.proofs.ConvertLaws.{convert_fault, convert_not_held, convert_short, convert_done}
+use Rattle.convert.proofs.ConvertLaws.{convert_fault, convert_inconvertible, convert_short, convert_done}
 use Rattle.convert.proofs.converting.convert.Goals as goal
 
 pub returns-in_err-sites : goal.returns-in_err-sites
@@ -12,7 +12,7 @@ returns-in_err-sites c =
 pub returns-in_err-len : goal.returns-in_err-len
 returns-in_err-len c =
     let p = err_from_is_err_and c.from_residual-in_err-len.result c.from_residual-in_err-len.ensures.1 in
-    let h = convert_not_held c.args.list.bytes.now c.args.file.now c.args.out.now c.args.target _ c.in_ok-sites.ensures.answer (rw c.deref.ensures.0 at c.in_err-len.ensures) in
+    let h = convert_inconvertible c.args.list.bytes.now c.args.file.now c.args.out.now c.args.target _ c.in_ok-sites.ensures.answer (rw c.deref.ensures.0 at c.in_err-len.ensures) in
     rw (p.1, p.2) (record { answer = h.0.answer; buffer = h.0.buffer; numbers = h.0.numbers; enough = h.0.enough; same = tt })
 
 pub returns-then-out-len : goal.returns-then-out-len

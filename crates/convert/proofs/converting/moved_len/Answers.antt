@@ -6,16 +6,16 @@ use Rattle.convert.proofs.converting.moved_len.Goals as goal
 pub loop-site-init : goal.loop-site-init
 loop-site-init c = moved_start c.args.kind
 
-pub returns-in_err-held : goal.returns-in_err-held
-returns-in_err-held c =
+pub returns-in_err-check_convertible : goal.returns-in_err-check_convertible
+returns-in_err-check_convertible c =
     let p = err_from_is_err_and c.from_residual.result c.from_residual.ensures.1 in
-    rw (p.1, p.2) (moved_fault c.args.kind c.args.sites.now c.loop-site.site-index _ c.loop-site-test.true c.loop-site.invariant (sym c.held.ensures ∙ c.in_err-held.was))
+    rw (p.1, p.2) (moved_fault c.args.kind c.args.sites.now c.loop-site.site-index _ c.loop-site-test.true c.loop-site.invariant (sym c.check_convertible.ensures ∙ c.in_err-check_convertible.was))
 
 pub loop-site-preserved : goal.loop-site-preserved
 loop-site-preserved c =
     let n = c.record_len-n.ensures in
     let m = rw c.moved.ensures at c.record_len-len.ensures in
-    moved_more c.args.kind c.args.sites.now c.loop-site.site-index _ c.loop-site-test.true c.loop-site.invariant (sym c.held.ensures ∙ c.in_ok-held.was) _ _ n.answer m.answer n.bounds.1 m.bounds.1
+    moved_more c.args.kind c.args.sites.now c.loop-site.site-index _ c.loop-site-test.true c.loop-site.invariant (sym c.check_convertible.ensures ∙ c.in_ok-check_convertible.was) _ _ n.answer m.answer n.bounds.1 m.bounds.1
 
 pub returns : goal.returns
 returns c = moved_end c.args.kind c.args.sites.now (rw (take_all c.loop-site.site-index c.args.sites.now (omega arith)) at c.loop-site.invariant)
