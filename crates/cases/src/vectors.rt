@@ -91,7 +91,7 @@ pub fn print_rewritten(
     Ok(print_hexadecimal(rt, &out[..n])?)
 }
 
-// A file moved to the kind of the first byte. No contract says how many bytes are written, so the count is cut to the buffer.
+// A file moved to the kind of the first byte. Cutting the count to the buffer spares a proof that it fits.
 pub fn print_converted(rt: &impl Print, bytes: &[u8], list: &[u8]) -> Result<(), Stop> {
     let [target, file @ ..] = bytes else {
         return Ok(());

@@ -44,7 +44,7 @@ module _ (list f : List ℕ) (b : AllBytes f) (k : RecordKind) where
   inconvertible_near ss e {r} fault =
       let sized : All Sized ss = map-all (λ s t. clean_sized k s t) (sites_clean list f ss e) in
       let long : length f ≤ most_site_record * length ss = rw (sites_written list f b ss e) (records_few ss sized) in
-      omega (arith, ⊎_elim (λ h. inside 6 h) (λ h. inside 15 h) (fault_at_field list f b k ss e fault).1, long, (sites_checked list f ss e).0)
+      omega (arith, ⊎_elim (λ h. inside 6 h.1) (λ h. inside 15 h.1.1) (fault_at_field list f b k ss e fault).1, long, (sites_checked list f ss e).0)
     where
       inside : (t : ℕ) → get_or f r.at 0 ≡ t + 1 → r.at < length f
       inside t h =

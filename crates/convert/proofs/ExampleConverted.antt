@@ -1,23 +1,31 @@
 -- A1 of document 01 in the three kinds, byte for byte, and rule 17 with its offsets.
 use mathlib.Core.Path.{◌≡◌, refl}
-use mathlib.Core.List.{[], ◌∷◌, ◌++◌}
+use mathlib.Core.List.{List, [], ◌∷◌, ◌++◌}
+use Prim.Native.Nat.{ℕ}
 use lib.ListN.{take, drop}
 use Rattle.std.specs.Prelude.{Ok, Err}
 use Rattle.site.specs.Bounds.{no_entry}
 use Rattle.site.specs.ExampleSite.{a1}
 use Rattle.site.specs.Kinds.{counted_temperature}
-use Rattle.site.specs.Refusal.{unless}
+use Rattle.site.specs.Bytes.{tabulate, entry_at}
+use Rattle.site.specs.Refusal.{and_then, unless}
+use Rattle.site.specs.SpeciesList.{first_failing, place_of, lists}
+use Rattle.site.specs.Values.{length_permitted, value_rule, stand_rule, entries_rule, known_rule, species_known, between, name_byte, entry_ranged, rising_from, shares_of}
 use Rattle.site.specs.declared.RecordKind.TheVariants.{Tag52, Tag53, Tag54}
 use Rattle.site.specs.declared.Rule.TheVariants.{NotConvertible}
 use Rattle.site.specs.declared.Site.{Site}
-use Rattle.field.specs.Field.{value, entry_bytes, entries_bytes}
+use Rattle.field.specs.Field.{store, value, entry_bytes, entries_bytes, blank_site, blank_of}
+use Rattle.field.specs.Kind.{field_rule}
 use Rattle.record.specs.FieldParts.{field_of}
-use Rattle.record.specs.File.{first}
-use Rattle.record.specs.Fields.{encode_fields, encode_as}
+use Rattle.record.specs.File.{first, onto, walk_file, contents_by, contents}
+use Rattle.record.specs.Result.{result_numbers}
+use Rattle.record.specs.Fields.{head_rule, walk_fields, encode_fields, encode_as}
+use Rattle.record.specs.Records.{outer_rule, ending, record_in}
+use Rattle.record.specs.Outer.{site_tag, site_kinds, site_at}
 use Rattle.record.specs.Writer.{encode}
 use Rattle.record.proofs.ExampleRecord.{bytes_a1}
 use Rattle.convert.specs.Moved.{moved, species_convertible, temperature_convertible, field_start}
-use Rattle.convert.specs.Converted.{if_convertible, all_moved}
+use Rattle.convert.specs.Converted.{if_convertible, all_moved, converted}
 
 -- into kind 53: four bytes more, which say 8 °C
 a1_into_53 : encode (moved Tag53 a1) ≡ 83 ∷ 0 ∷ 79 ∷ drop 3 bytes_a1 ++ 16 ∷ 0 ∷ 1 ∷ 13 ∷ []
@@ -57,3 +65,16 @@ stand_first = refl
 warm_into_54 : all_moved Tag54 0 (warm ∷ warm_listed ∷ []) ≡ Ok (record warm { kind = Tag54 } ∷ warm_listed ∷ [])
 unfolding all_moved if_convertible unless species_convertible temperature_convertible field_start counted_temperature first moved encode_as encode_fields field_of value entry_bytes entries_bytes
 warm_into_54 = refl
+
+-- ---- from bytes, with document 02's numbers: 17 at field 10 of A1 at 9 °C, 82 bytes; and where a record of kind 55 comes after it, 3 there
+
+abbrev bytes_warm : List ℕ
+bytes_warm = 83 ∷ 0 ∷ 79 ∷ drop 3 bytes_a1 ++ 16 ∷ 0 ∷ 1 ∷ 14 ∷ []
+
+numbered_17 : result_numbers (converted Tag52 (contents [] bytes_warm)) ≡ (17, 78)
+unfolding result_numbers converted contents contents_by walk_file onto first site_at record_in ending outer_rule head_rule unless walk_fields field_rule length_permitted tabulate entry_at store value_rule and_then stand_rule entries_rule known_rule species_known lists place_of first_failing between name_byte entry_ranged rising_from shares_of blank_of blank_site site_tag site_kinds all_moved if_convertible species_convertible temperature_convertible field_start counted_temperature moved encode_as encode_fields field_of value entry_bytes entries_bytes
+numbered_17 = refl
+
+own_fault_first : result_numbers (converted Tag52 (contents [] (bytes_warm ++ 85 ∷ 0 ∷ 0 ∷ []))) ≡ (3, 82)
+unfolding result_numbers converted contents contents_by walk_file onto first site_at record_in ending outer_rule head_rule unless walk_fields field_rule length_permitted tabulate entry_at store value_rule and_then stand_rule entries_rule known_rule species_known lists place_of first_failing between name_byte entry_ranged rising_from shares_of blank_of blank_site site_tag site_kinds all_moved if_convertible species_convertible temperature_convertible field_start counted_temperature moved encode_as encode_fields field_of value entry_bytes entries_bytes
+own_fault_first = refl

@@ -54,7 +54,7 @@ temperature_due Tag53 has = refl
 temperature_due Tag54 has = refl
 
 module _ (list f : List ℕ) (b : AllBytes f) (k : RecordKind) (ss : List Site) (e : contents list f ≡ Ok ss) {r : Refusal} (fault : all_moved k 0 ss ≡ Err r) where
-  first : FirstInconvertible k ss r
+  pub first : FirstInconvertible k ss r
   first = first_inconvertible k ss fault
 
   bytes : f ≡ file_of first.before ++ (encode first.site ++ file_of first.after)
@@ -69,13 +69,20 @@ module _ (list f : List ℕ) (b : AllBytes f) (k : RecordKind) (ss : List Site) 
       ∙ get_or-append-add (file_of first.before) (encode first.site ++ file_of first.after) (field_start t first.site) 0
       ∙ starts first.site t (drop t (due first.site.kind)) (file_of first.after) order
 
-  pub fault_at_field : (r.rule ≡ NotConvertible) × ((get_or f r.at 0 ≡ 7) ⊎ (get_or f r.at 0 ≡ 16))
+  -- the condition that is broken, and the tag at the offset
+  abbrev pub FieldThere : Type 0
+  FieldThere =
+      ((species_convertible k first.site ≡ Err NotConvertible) × (get_or f r.at 0 ≡ 7))
+      ⊎ ((species_convertible k first.site ≡ Ok tt) × ((temperature_convertible k first.site ≡ Err NotConvertible) × (get_or f r.at 0 ≡ 16)))
+
+  pub fault_at_field : (r.rule ≡ NotConvertible) × FieldThere
   unfolding species_convertible temperature_convertible
   fault_at_field = by_field first.here
     where
-      by_field : Inconvertible k (length (file_of first.before)) first.site r → (r.rule ≡ NotConvertible) × ((get_or f r.at 0 ≡ 7) ⊎ (get_or f r.at 0 ≡ 16))
-      by_field (stand broken at) = (not_convertible _ broken, inl (there 7 (stand_due first.site.kind) at))
-      by_field (temperature held broken at) = (not_convertible _ broken, inr (there 16 (temperature_due first.site.kind (has_field_10 k first.site broken)) at))
+      by_field : Inconvertible k (length (file_of first.before)) first.site r → (r.rule ≡ NotConvertible) × FieldThere
+      by_field (stand broken at) = let is = not_convertible _ broken in (is, inl (broken ∙ ap Err is, there 7 (stand_due first.site.kind) at))
+      by_field (temperature passed broken at) =
+          let is = not_convertible _ broken in (is, inr (passed, (broken ∙ ap Err is, there 16 (temperature_due first.site.kind (has_field_10 k first.site broken)) at)))
 
 -- rule 17 by what the fields say: field 07 starts behind the name, and field 10, where it breaks the rule, 4 bytes before the record's end
 pub convertible_by_field : (k : RecordKind) (s : Site) (at n : ℕ) → n ≡ length (encode s)

@@ -26,9 +26,10 @@ use Rattle.site.specs.declared.Site.{Site}
 use Rattle.site.proofs.FieldLaws.{site_passed, due_passed}
 use Rattle.site.proofs.Passing.{pass_then, both_passed, inside_both}
 use Rattle.site.proofs.BoundsLaw.{site_ranged}
-use Rattle.site.proofs.NarrowLaws.{narrow_species}
+use Rattle.site.proofs.NarrowLaws.{narrow_species, narrow_site}
 use Rattle.site.proofs.Tests.{and_l, and_r}
 use Rattle.loads.specs.SiteTerms.{terms_of}
+use Rattle.loads.proofs.ListedLaws.{narrow_terms}
 use Rattle.loads.proofs.OneSiteLaws.{terms_same, one_with}
 use Rattle.judgement.specs.Answers.{judged_of}
 use Rattle.field.specs.Clean.{clean, Sized}
@@ -210,30 +211,39 @@ all_small k narrow (x ∷ xs) p =
     let here = narrow_species k narrow x (and_l (entry_ranged k x) (list_all (entry_ranged k) xs) p) in
     rw (lt-ltb x.species 256 (omega arith)) (all_small k narrow xs (and_r (entry_ranged k x) (list_all (entry_ranged k) xs) p))
 
--- a kind holds every site of its own that passes
 module _ (list : List ℕ) (s : Site) (e : site_rule list s ≡ Ok tt) where
-  own_species : species_convertible s.kind s ≡ Ok tt
+  up_species : (k : RecordKind) → (two_byte_species s.kind ≡ true → two_byte_species k ≡ true) → species_convertible k s ≡ Ok tt
   unfolding species_convertible
-  own_species = by_kind s.kind refl
+  up_species k up = by_width (two_byte_species k) (two_byte_species s.kind) refl refl
     where
-      by_kind : (k : RecordKind) → s.kind ≡ k → convertible (two_byte_species k || list_all small (take s.stand.count s.stand.entries)) ≡ Ok tt
-      by_kind Tag52 is = rw (all_small Tag52 refl (take s.stand.count s.stand.entries) (rw is at (site_ranged list s e)))
-      by_kind Tag53 is = rw (all_small Tag53 refl (take s.stand.count s.stand.entries) (rw is at (site_ranged list s e)))
-      by_kind Tag54 is = refl
+      by_width : (w v : Bool) → two_byte_species k ≡ w → two_byte_species s.kind ≡ v → convertible (two_byte_species k || list_all small (take s.stand.count s.stand.entries)) ≡ Ok tt
+      by_width true v wide from = rw wide
+      by_width false false narrow from = rw (narrow, all_small s.kind from (take s.stand.count s.stand.entries) (site_ranged list s e))
+      by_width false true narrow from = absurd (false≢true (sym narrow ∙ up from))
 
-  own_temperature : temperature_convertible s.kind s ≡ Ok tt
+  up_temperature : (k : RecordKind) → (has_temperature s.kind ≡ true → has_temperature k ≡ true) → temperature_convertible k s ≡ Ok tt
   unfolding temperature_convertible counted_temperature
-  own_temperature = by_kind s.kind
+  up_temperature k up = by_field (has_temperature k) (has_temperature s.kind) refl refl
     where
-      by_kind : (k : RecordKind) → convertible (has_temperature k || eqb (pick (has_temperature k) s.temperature reference_temperature) reference_temperature) ≡ Ok tt
-      by_kind Tag52 = refl
-      by_kind Tag53 = refl
-      by_kind Tag54 = refl
+      by_field : (w v : Bool) → has_temperature k ≡ w → has_temperature s.kind ≡ v
+          → convertible (has_temperature k || eqb (pick (has_temperature s.kind) s.temperature reference_temperature) reference_temperature) ≡ Ok tt
+      by_field true v has from = rw has
+      by_field false false lacks from = rw (lacks, from)
+      by_field false true lacks from = absurd (false≢true (sym lacks ∙ up from))
 
-  pub own_converts : Converts s.kind s
-  own_converts = record { species = own_species; temperature = own_temperature }
+  -- into a kind that has two bytes for a species where the site's kind has them, and field 10 where that has it, every site that passes converts: up, and into the kind it has
+  pub up_converts : (k : RecordKind) → (two_byte_species s.kind ≡ true → two_byte_species k ≡ true) → (has_temperature s.kind ≡ true → has_temperature k ≡ true) → Converts k s
+  up_converts k species temperature = record { species = up_species k species; temperature = up_temperature k temperature }
 
   -- and what has been moved can be moved back
   pub back_converts : (k : RecordKind) → temperature_convertible k s ≡ Ok tt → Converts s.kind (moved k s)
   unfolding species_convertible temperature_convertible moved
-  back_converts k held = record { species = own_species; temperature = rw (counted_moved k s held) own_temperature }
+  back_converts k held = record { species = up_species s.kind (λ w. w); temperature = rw (counted_moved k s held) (up_temperature s.kind (λ w. w)) }
+
+-- a unit that knows no list: in kinds 52 and 53 a moved site passes with any list, and has the terms that the one it comes from has with its own
+pub moved_narrow : (list more : List ℕ) (k : RecordKind) (s : Site) → two_byte_species k ≡ false → site_rule list s ≡ Ok tt → Converts k s
+    → (site_rule more (moved k s) ≡ Ok tt) × (terms_of more (moved k s) ≡ terms_of list s)
+unfolding moved
+moved_narrow list more k s narrow e c =
+    let passes = moved_passes list k s e c in
+    (narrow_site more list (moved k s) narrow ∙ passes, narrow_terms more list (moved k s) narrow (narrow_site more list (moved k s) narrow ∙ passes) ∙ moved_terms k s c.temperature list)

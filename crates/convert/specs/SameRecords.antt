@@ -14,9 +14,9 @@ use Rattle.convert.specs.Converted.{converted, file_of}
 abbrev pub OfKind : RecordKind → List Site → Type 0
 OfKind k ss = (i : ℕ) → i < length ss → (get_or ss i blank_site).kind ≡ k
 
--- With the list that is lent: the file g is the file f with every record moved to kind k. It passes the checks; each of its sites has the terms of the one it
--- comes from, by which loads and marks are defined, and its loads and mark; what is listed is the same text. A file of one kind converts back to its own bytes,
--- and moved to its own kind it is itself.
+-- With the list that is lent: the file g is the file f with every record moved to kind k. g passes the checks. Each of its sites has the terms of the site it comes
+-- from, on which loads and marks are defined, and the same loads and mark; what is printed for g is what is printed for f. Where all records of f are of one kind, g
+-- converts back to the bytes of f; where this is k, g is f.
 pub record SameRecords (list : List ℕ) (k : RecordKind) (f g : List ℕ) : Type 0 where
   pub sites : List Site
   pub holds : contents list f ≡ Ok sites

@@ -19,7 +19,7 @@ added_length Tag52 = 0
 added_length Tag53 = 4
 added_length Tag54 = 4
 
--- the greatest length of a record: that of kind 54 with a name of 8 bytes and 4 entries
+-- the greatest length of a record that is written: that of kind 54 with a name of 8 bytes and 4 entries
 abbrev pub most_site_record : ℕ
 most_site_record = 104
 
