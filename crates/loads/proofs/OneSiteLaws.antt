@@ -20,8 +20,8 @@ terms_same list s t one = cc
 
 -- a site is one site with itself under another name, with another pair, and in a record of another kind where the same temperature counts
 pub one_with : (s : Site) (kind : RecordKind) (name : Name) (sulphur nitrogen temperature : ℕ)
-    → counted_temperature (record s { kind = kind; name = name; sulphur = sulphur; nitrogen = nitrogen; temperature = temperature; }) ≡ counted_temperature s
-    → OneSite (record s { kind = kind; name = name; sulphur = sulphur; nitrogen = nitrogen; temperature = temperature; }) s
+    → counted_temperature (record s { kind = kind; name = name; sulphur = sulphur; nitrogen = nitrogen; temperature = temperature }) ≡ counted_temperature s
+    → OneSite (record s { kind = kind; name = name; sulphur = sulphur; nitrogen = nitrogen; temperature = temperature }) s
 one_with s kind name sulphur nitrogen temperature counts = record {
   parent = refl;
   clay = refl;
