@@ -77,25 +77,25 @@ module _ (k : RecordKind) (s : Site) (held : temperature_convertible k s ≡ Ok 
 
 -- ---- its species stay in the range of the new kind
 
--- a species in the range of one kind is in that of another which has two bytes for it, or where it is below 256
-species_moved : (j k : RecordKind) (n : ℕ) → species_ranged j n ≡ true → two_byte_species k || ltb n 256 ≡ true → species_ranged k n ≡ true
-species_moved j k n p q = by_table (leb n most_species) (two_byte_species k) (ltb n 256) refl refl p q
+-- a species in the range of one kind is in that of another which has two bytes for it, or where it is small
+species_moved : (j k : RecordKind) (e : Entry) → species_ranged j e.species ≡ true → two_byte_species k || small e ≡ true → species_ranged k e.species ≡ true
+species_moved j k e p q = by_table (leb e.species most_species) (two_byte_species k) (small e) refl p q
   where
-    by_table : (a w l : Bool) → ltb n 256 ≡ l → two_byte_species k ≡ w → a || two_byte_species j && inside listed_range n ≡ true → w || l ≡ true
-        → a || w && inside listed_range n ≡ true
-    by_table true w l small wide p q = refl
-    by_table false true l small wide p q = and_r (two_byte_species j) (inside listed_range n) p
-    by_table false false true small wide p q =
-        absurd (omega (arith, ltb-true n 256 small, (inside_both listed_range n (and_r (two_byte_species j) (inside listed_range n) p)).0))
-    by_table false false false small wide p q = absurd (false≢true q)
+    by_table : (a w l : Bool) → small e ≡ l → a || two_byte_species j && inside listed_range e.species ≡ true → w || l ≡ true
+        → a || w && inside listed_range e.species ≡ true
+    by_table true w l is p q = refl
+    by_table false true l is p q = and_r (two_byte_species j) (inside listed_range e.species) p
+    by_table false false true is p q =
+        absurd (omega (arith, ltb-true e.species _ is, (inside_both listed_range e.species (and_r (two_byte_species j) (inside listed_range e.species) p)).0))
+    by_table false false false is p q = absurd (false≢true q)
 
-entry_moved : (j k : RecordKind) (e : Entry) → entry_ranged j e ≡ true → two_byte_species k || ltb e.species 256 ≡ true → entry_ranged k e ≡ true
+entry_moved : (j k : RecordKind) (e : Entry) → entry_ranged j e ≡ true → two_byte_species k || small e ≡ true → entry_ranged k e ≡ true
 unfolding entry_ranged
 entry_moved j k e p q =
     let share = inside share_range e.share in
     let yielded = leb e.yield_kg most_yield in
     let first = and_l (species_ranged j e.species && share) yielded p in
-    rw (species_moved j k e.species (and_l (species_ranged j e.species) share first) q, and_r (species_ranged j e.species) share first, and_r (species_ranged j e.species && share) yielded p) refl
+    rw (species_moved j k e (and_l (species_ranged j e.species) share first) q, and_r (species_ranged j e.species) share first, and_r (species_ranged j e.species && share) yielded p) refl
 
 entries_moved : (j k : RecordKind) (es : List Entry) → list_all (entry_ranged j) es ≡ true → two_byte_species k || list_all small es ≡ true
     → list_all (entry_ranged k) es ≡ true
