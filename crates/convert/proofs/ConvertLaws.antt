@@ -42,7 +42,7 @@ records_few (s ∷ ss) (z ▸ zs) = omega (arith, length-append (encode s) (file
 module _ (list f : List ℕ) (b : AllBytes f) (k : RecordKind) where
   inconvertible_near : (ss : List Site) → contents list f ≡ Ok ss → {r : Refusal} → all_moved k 0 ss ≡ Err r → r.at ≤ most_record * most_records
   inconvertible_near ss e {r} fault =
-      let sized : All Sized ss = map-all (λ s t. clean_sized k s t) (sites_clean list f ss e) in
+      let sized : All Sized ss = map-all (λ s t. clean_sized s t) (sites_clean list f ss e) in
       let long : length f ≤ most_site_record * length ss = rw (sites_written list f b ss e) (records_few ss sized) in
       omega (arith, ⊎_elim (λ h. inside 6 h.1) (λ h. inside 15 h.1.1) (fault_at_field list f b k ss e fault).1, long, (sites_checked list f ss e).0)
     where
@@ -93,7 +93,7 @@ module _ (list f d : List ℕ) (k : RecordKind) where
 
       few : length (file_of (map (moved k) ss)) ≤ most_converted
       few =
-          let sized : All Sized (map (moved k) ss) = map_each (moved k) ss (map-all (λ s t. moved_sized k s t) (tidy list f b k ss e holds)) in
+          let sized : All Sized (map (moved k) ss) = map_each (moved k) ss (map-all (λ s t. moved_sized s t k) (tidy list f b k ss e holds)) in
           omega (arith, records_few (map (moved k) ss) sized, length-map ss (moved k), (sites_checked list f ss e).0)
 
       -- rule 11

@@ -19,25 +19,51 @@ use Rattle.record.specs.Writer.{encode, most_site_record}
 use Rattle.convert.specs.Moved.{moved, species_convertible, temperature_convertible, Converts, field_start}
 use Rattle.convert.specs.Converted.{if_convertible, all_moved, moved_record, file_of, Inconvertible, stand, temperature, FirstInconvertible}
 
+-- ---- one record: it converts, or one of its two fields breaks rule 17
+
+module _ (k : RecordKind) (s : Site) (at : ℕ) where
+  data Said : Type 0 where
+    converts : Converts k s → Said
+    breaks : (r : Refusal) → Inconvertible k at s r → Said
+
+  said : Said
+  said = by_rules (species_convertible k s) (temperature_convertible k s) refl refl
+    where
+      by_rules : (a b : Checked) → species_convertible k s ≡ a → temperature_convertible k s ≡ b → Said
+      by_rules (Ok u) (Ok v) p q = converts (record { species = p; temperature = q })
+      by_rules (Ok u) (Err x) p q = breaks (record { rule = x; at = at + field_start 16 s }) (temperature p q refl)
+      by_rules (Err x) b p q = breaks (record { rule = x; at = at + field_start 7 s }) (stand p refl)
+
+  module _ {A : Type 0} (x : Result A Refusal) where
+    converts_on : Converts k s → if_convertible k s at x ≡ x
+    unfolding if_convertible unless
+    converts_on c = rw (c.species, c.temperature)
+
+    breaks_here : {r : Refusal} → Inconvertible k at s r → if_convertible k s at x ≡ Err r
+    unfolding if_convertible unless
+    breaks_here (stand broken place) = rw (broken, ← place)
+    breaks_here (temperature passed broken place) = rw (passed, broken, ← place)
+
+-- ---- the records of a file
+
 module _ (k : RecordKind) where
   pub all_converts : (ss : List Site) → All (Converts k) ss → (at : ℕ) → all_moved k at ss ≡ Ok (map (moved k) ss)
-  unfolding all_moved if_convertible unless first
+  unfolding all_moved first
   all_converts [] none at = refl
-  all_converts (s ∷ ss) (c ▸ cs) at = rw (c.species, c.temperature, all_converts ss cs (at + length (encode s)))
+  all_converts (s ∷ ss) (c ▸ cs) at =
+      let rest = all_moved k (at + length (encode s)) ss in
+      converts_on k s at (first (moved k s) rest) c ∙ rw (all_converts ss cs (at + length (encode s)))
 
   -- and only there
   pub all_moved_ok : (ss : List Site) (at : ℕ) {ts : List Site} → all_moved k at ss ≡ Ok ts → All (Converts k) ss
-  unfolding all_moved if_convertible unless first
+  unfolding all_moved first
   all_moved_ok [] at e = none
-  all_moved_ok (s ∷ ss) at {ts} e =
-      by_rules (species_convertible k s) (temperature_convertible k s) (all_moved k (at + length (encode s)) ss) refl refl (λ us m. all_moved_ok ss (at + length (encode s)) m) e
+  all_moved_ok (s ∷ ss) at {ts} e = by_said (said k s at) (all_moved k (at + length (encode s)) ss) (λ us m. all_moved_ok ss (at + length (encode s)) m) e
     where
-      by_rules : (a b : Checked) (c : Contents Site) → species_convertible k s ≡ a → temperature_convertible k s ≡ b → ((us : List Site) → c ≡ Ok us → All (Converts k) ss)
-          → unless a (at + field_start 7 s) (unless b (at + field_start 16 s) (first (moved k s) c)) ≡ Ok ts → All (Converts k) (s ∷ ss)
-      by_rules (Ok u) (Ok v) (Ok us) p q more e = record { species = p; temperature = q } ▸ more us refl
-      by_rules (Ok u) (Ok v) (Err x) p q more e = cc
-      by_rules (Ok u) (Err x) c p q more e = cc
-      by_rules (Err x) b c p q more e = cc
+      by_said : Said k s at → (c : Contents Site) → ((us : List Site) → c ≡ Ok us → All (Converts k) ss) → if_convertible k s at (first (moved k s) c) ≡ Ok ts → All (Converts k) (s ∷ ss)
+      by_said (converts y) (Ok us) more e = y ▸ more us refl
+      by_said (converts y) (Err x) more e = let z = sym (converts_on k s at (first (moved k s) (Err x)) y) ∙ e in cc
+      by_said (breaks x b) c more e = let z = sym (breaks_here k s at (first (moved k s) c) b) ∙ e in cc
 
   -- the first field that a record of the kind cannot hold, among records that stand from an offset on
   record FirstFrom (at : ℕ) (ss : List Site) (r : Refusal) : Type 0 where
@@ -49,24 +75,21 @@ module _ (k : RecordKind) where
     here : Inconvertible k (at + length (file_of before)) site r
 
   first_from : (ss : List Site) (at : ℕ) {r : Refusal} → all_moved k at ss ≡ Err r → FirstFrom at ss r
-  unfolding all_moved if_convertible unless first
+  unfolding all_moved first
   first_from [] at e = cc
-  first_from (s ∷ ss) at {r} e =
-      by_rules (species_convertible k s) (temperature_convertible k s) (all_moved k (at + length (encode s)) ss) refl refl (λ x m. first_from ss (at + length (encode s)) m) e
+  first_from (s ∷ ss) at {r} e = by_said (said k s at) (all_moved k (at + length (encode s)) ss) (λ x m. first_from ss (at + length (encode s)) m) e
     where
       start : at + length (file_of []) ≡ at
       start = omega arith
 
-      by_rules : (a b : Checked) (c : Contents Site) → species_convertible k s ≡ a → temperature_convertible k s ≡ b
-          → ((x : Refusal) → c ≡ Err x → FirstFrom (at + length (encode s)) ss x)
-          → unless a (at + field_start 7 s) (unless b (at + field_start 16 s) (first (moved k s) c)) ≡ Err r → FirstFrom at (s ∷ ss) r
-      by_rules (Err x) b c p q m e =
-          let is : record { rule = x; at = at + field_start 7 s } ≡ r = cc in
-          record { before = []; site = s; after = ss; order = refl; converts = none; here = rw (← is) (stand p (omega arith)) }
-      by_rules (Ok u) (Err x) c p q m e =
-          let is : record { rule = x; at = at + field_start 16 s } ≡ r = cc in
-          record { before = []; site = s; after = ss; order = refl; converts = none; here = rw (← is) (temperature p q (omega arith)) }
-      by_rules (Ok u) (Ok v) (Err x) p q m e =
+      by_said : Said k s at → (c : Contents Site) → ((x : Refusal) → c ≡ Err x → FirstFrom (at + length (encode s)) ss x)
+          → if_convertible k s at (first (moved k s) c) ≡ Err r → FirstFrom at (s ∷ ss) r
+      by_said (breaks x b) c m e =
+          let z = sym (breaks_here k s at (first (moved k s) c) b) ∙ e in
+          let is : x ≡ r = cc in
+          record { before = []; site = s; after = ss; order = refl; converts = none; here = rw (start, ← is) b }
+      by_said (converts y) (Err x) m e =
+          let z = sym (converts_on k s at (first (moved k s) (Err x)) y) ∙ e in
           let is : x ≡ r = cc in
           let rest = m r (ap Err is) in
           let far : at + length (encode s) + length (file_of rest.before) ≡ at + length (file_of (s ∷ rest.before)) = omega (arith, length-append (encode s) (file_of rest.before)) in
@@ -74,11 +97,11 @@ module _ (k : RecordKind) where
             before = s ∷ rest.before;
             site = rest.site;
             after = rest.after;
-            order = ap (λ xs. s ∷ xs) rest.order;
-            converts = record { species = p; temperature = q } ▸ rest.converts;
+            order = ap (λ xs. s ∷ xs) {y = rest.before ++ rest.site ∷ rest.after} rest.order;
+            converts = y ▸ rest.converts;
             here = rw far at rest.here;
           }
-      by_rules (Ok u) (Ok v) (Ok us) p q m e = cc
+      by_said (converts y) (Ok us) m e = let z = sym (converts_on k s at (first (moved k s) (Ok us)) y) ∙ e in cc
 
   -- of a file the first from the left
   pub first_inconvertible : (ss : List Site) {r : Refusal} → all_moved k 0 ss ≡ Err r → FirstInconvertible k ss r
@@ -108,31 +131,26 @@ module _ (k : RecordKind) where
   moved_start = record { converts = none; start = refl; bytes = refl; few = (omega arith, omega arith) }
 
   convertible_ok : (s : Site) (at : ℕ) → if_convertible {A = Unit {0}} k s at (Ok tt) ≡ Ok tt → Converts k s
-  unfolding if_convertible unless
-  convertible_ok s at e = by_rules (species_convertible k s) (temperature_convertible k s) refl refl e
+  convertible_ok s at e = by_said (said k s at)
     where
-      by_rules : (a b : Checked) → species_convertible k s ≡ a → temperature_convertible k s ≡ b
-          → unless {A = Unit {0}} a (at + field_start 7 s) (unless b (at + field_start 16 s) (Ok tt)) ≡ Ok tt → Converts k s
-      by_rules (Ok u) (Ok v) p q e = record { species = p; temperature = q }
-      by_rules (Ok u) (Err x) p q e = cc
-      by_rules (Err x) b p q e = cc
+      by_said : Said k s at → Converts k s
+      by_said (converts y) = y
+      by_said (breaks x b) = let z = sym (breaks_here k s at {A = Unit {0}} (Ok tt) b) ∙ e in cc
 
   convertible_err : {A : Type 0} (x : Result A Refusal) (s : Site) (at : ℕ) {r : Refusal} → if_convertible {A = Unit {0}} k s at (Ok tt) ≡ Err r → if_convertible k s at x ≡ Err r
-  unfolding if_convertible unless
-  convertible_err {A} x s at {r} e = by_rules (species_convertible k s) (temperature_convertible k s) e
+  convertible_err {A} x s at {r} e = by_said (said k s at)
     where
-      by_rules : (a b : Checked) → unless {A = Unit {0}} a (at + field_start 7 s) (unless b (at + field_start 16 s) (Ok tt)) ≡ Err r
-          → unless a (at + field_start 7 s) (unless b (at + field_start 16 s) x) ≡ Err r
-      by_rules (Ok u) (Ok v) e = cc
-      by_rules (Ok u) (Err y) e = cc
-      by_rules (Err y) b e = cc
+      by_said : Said k s at → if_convertible k s at x ≡ Err r
+      by_said (converts y) = let z = sym (converts_on k s at {A = Unit {0}} (Ok tt) y) ∙ e in cc
+      by_said (breaks q b) = let z = sym (breaks_here k s at {A = Unit {0}} (Ok tt) b) ∙ e in let is : q ≡ r = cc in rw (← is) (breaks_here k s at x b)
 
   past : (xs ys : List Site) → All (Converts k) xs → (at : ℕ) {r : Refusal} → all_moved k (at + length (file_of xs)) ys ≡ Err r → all_moved k at (xs ++ ys) ≡ Err r
-  unfolding all_moved if_convertible unless first
+  unfolding all_moved first
   past [] ys none at e = let same : at + length (file_of []) ≡ at = omega arith in rw same at e
   past (s ∷ xs) ys (c ▸ cs) at e =
-      let same : at + length (file_of (s ∷ xs)) ≡ at + length (encode s) + length (file_of xs) = omega (arith, length-append (encode s) (file_of xs)) in
-      rw (c.species, c.temperature, past xs ys cs (at + length (encode s)) (rw same at e))
+      let next = at + length (encode s) in
+      let same : at + length (file_of (s ∷ xs)) ≡ next + length (file_of xs) = omega (arith, length-append (encode s) (file_of xs)) in
+      converts_on k s at (first (moved k s) (all_moved k next (xs ++ ys))) c ∙ rw (past xs ys cs next (rw same at e))
 
   module _ (ss : List Site) (i : ℕ) (d : Site) (h : i < length ss) {at len : ℕ} (so : MovedSoFar k (take i ss) at len) where
     pub moved_fault : {r : Refusal} → if_convertible {A = Unit {0}} k (get_or ss i d) at (Ok tt) ≡ Err r → all_moved k 0 ss ≡ Err r

@@ -5,7 +5,7 @@ use mathlib.Core.List.{List, [], ◌∷◌, ◌++◌}
 use Prim.Native.Nat.{ℕ, ◌≤◌}
 use native.Mathlib.Omega.{arith}
 use borrow.Author.Tests.{ltb-true, eqb-true, lt-ltb}
-use lib.Dec.{leb, ltb, eqb}
+use lib.Dec.{leb, eqb}
 use lib.ListN.{length, take, length-take, length-append, replicate}
 use Rattle.std.specs.List.{list_all}
 use Rattle.std.proofs.lemmas.List.{length-replicate}
@@ -173,25 +173,10 @@ padded : {A : Type 0} (n : ℕ) (xs : List A) (d : A) → length (take n (xs ++ 
 padded n xs d = omega (arith, length-take n (xs ++ replicate n d), length-append xs (replicate n d), length-replicate n d)
 
 -- a site that was read has the temperature that counts in its place
-module _ (k : RecordKind) (s : Site) (tidy : clean s ≡ s) where
+module _ (s : Site) (tidy : clean s ≡ s) where
   counted_here : counted_temperature s ≡ s.temperature
   unfolding clean
   counted_here = ap (λ (x : Site). x.temperature) tidy
-
-  pub moved_clean : temperature_convertible k s ≡ Ok tt → clean (moved k s) ≡ moved k s
-  unfolding clean moved
-  moved_clean held =
-      let name : (clean s).name ≡ s.name = ap (λ (x : Site). x.name) tidy in
-      let stand : (clean s).stand ≡ s.stand = ap (λ (x : Site). x.stand) tidy in
-      rw (name, stand, counted_moved k s held)
-
-  pub moved_back : temperature_convertible k s ≡ Ok tt → moved s.kind (moved k s) ≡ s
-  unfolding moved
-  moved_back held = rw (counted_moved k s held, counted_here)
-
-  pub moved_itself : moved s.kind s ≡ s
-  unfolding moved
-  moved_itself = rw counted_here
 
   pub clean_sized : Sized s
   unfolding clean
@@ -200,9 +185,26 @@ module _ (k : RecordKind) (s : Site) (tidy : clean s ≡ s) where
     stand = ap (λ (x : Site). length x.stand.entries) (sym tidy) ∙ padded 4 (take s.stand.count s.stand.entries) no_entry;
   }
 
-  pub moved_sized : Sized (moved k s)
+  pub moved_itself : moved s.kind s ≡ s
   unfolding moved
-  moved_sized = record { name = clean_sized.name; stand = clean_sized.stand }
+  moved_itself = rw counted_here
+
+  module _ (k : RecordKind) where
+    pub moved_sized : Sized (moved k s)
+    unfolding moved
+    moved_sized = record { name = clean_sized.name; stand = clean_sized.stand }
+
+    module _ (held : temperature_convertible k s ≡ Ok tt) where
+      pub moved_clean : clean (moved k s) ≡ moved k s
+      unfolding clean moved
+      moved_clean =
+          let name : (clean s).name ≡ s.name = ap (λ (x : Site). x.name) tidy in
+          let stand : (clean s).stand ≡ s.stand = ap (λ (x : Site). x.stand) tidy in
+          rw (name, stand, counted_moved k s held)
+
+      pub moved_back : moved s.kind (moved k s) ≡ s
+      unfolding moved
+      moved_back = rw (counted_moved k s held, counted_here)
 
 -- the species of a kind that has one byte for them
 all_small : (k : RecordKind) → two_byte_species k ≡ false → (es : List Entry) → list_all (entry_ranged k) es ≡ true → list_all small es ≡ true

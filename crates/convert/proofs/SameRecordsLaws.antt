@@ -69,9 +69,9 @@ module _ (list f : List ℕ) (b : AllBytes f) (k : RecordKind) (ss : List Site) 
   -- the converted file passes, and holds the sites that were moved
   pub converted_passes : contents list (file_of (map (moved k) ss)) ≡ Ok (map (moved k) ss)
   converted_passes =
-      let sized : All (λ s. Sized (moved k s) × (site_rule list (moved k s) ≡ Ok tt)) ss = zip_all (λ s t p. (moved_sized k s t, p)) tidy (zip_all (λ s p x. moved_passes list k s p x) passed c) in
+      let sized : All (λ s. Sized (moved k s) × (site_rule list (moved k s) ≡ Ok tt)) ss = zip_all (λ s t p. (moved_sized s t k, p)) tidy (zip_all (λ s p x. moved_passes list k s p x) passed c) in
       let most = (sites_checked list f ss e).0 in
-      let again = zip_all (λ s t h. moved_clean k s t h) tidy held in
+      let again = zip_all (λ s t h. moved_clean s t k h) tidy held in
       sites_read list (map (moved k) ss) (map_each (moved k) ss sized) (omega (arith, some, length-map ss (moved k))) (omega (arith, most, length-map ss (moved k)))
       ∙ ap Ok (map_same clean (map (moved k) ss) (map_each (moved k) ss again))
 
@@ -90,7 +90,7 @@ module _ (list f : List ℕ) (b : AllBytes f) (k : RecordKind) (ss : List Site) 
 
   back_sites : (j : RecordKind) → All (λ s. s.kind ≡ j) ss → map (moved j) (map (moved k) ss) ≡ ss
   back_sites j kinds =
-      map-map (moved j) (moved k) ss ∙ map_same (λ s. moved j (moved k s)) ss (zip_all (λ s is x. subst (λ i. moved i (moved k s) ≡ s) is x) kinds (zip_all (λ s t h. moved_back k s t h) tidy held))
+      map-map (moved j) (moved k) ss ∙ map_same (λ s. moved j (moved k s)) ss (zip_all (λ s is x. subst (λ i. moved i (moved k s) ≡ s) is x) kinds (zip_all (λ s t h. moved_back s t k h) tidy held))
 
   goes_back : (j : RecordKind) → OfKind j ss → (converted j (contents list (file_of (map (moved k) ss))) ≡ Ok ss) × (file_of ss ≡ f)
   unfolding converted
@@ -100,7 +100,7 @@ module _ (list f : List ℕ) (b : AllBytes f) (k : RecordKind) (ss : List Site) 
 
   is_itself : OfKind k ss → file_of (map (moved k) ss) ≡ f
   is_itself kinds =
-      let each = zip_all (λ s is x. subst (λ i. moved i s ≡ s) is x) (all_places ss kinds) (map-all (λ s t. moved_itself k s t) tidy) in
+      let each = zip_all (λ s is x. subst (λ i. moved i s ≡ s) is x) (all_places ss kinds) (map-all (λ s t. moved_itself s t) tidy) in
       ap file_of (map_same (moved k) ss each) ∙ sym (sites_written list f b ss e)
 
   pub same_records : SameRecords list k f (file_of (map (moved k) ss))
