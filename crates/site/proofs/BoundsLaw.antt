@@ -2,7 +2,7 @@
 use mathlib.Core.Path.{◌≡◌, refl}
 use mathlib.Core.Logic.{⊎_elim}
 use mathlib.Core.Bool.{true, ◌&&◌}
-use mathlib.Core.List.{List}
+use mathlib.Core.List.{List, [], ◌∷◌}
 use Prim.Native.Nat.{ℕ, ◌≤◌, ◌<◌}
 use native.Mathlib.Omega.{arith}
 use lib.Dec.{leb, eqb}
@@ -20,7 +20,7 @@ use Rattle.site.specs.Ranges.{parent_range, depth_range, percolation_range, shar
 use Rattle.site.specs.declared.RecordKind.{RecordKind}
 use Rattle.site.specs.declared.RecordKind.TheVariants.{Tag52, Tag53, Tag54}
 use Rattle.site.specs.Kinds.{due, counted_temperature}
-use Rattle.site.specs.Values.{count_rule, item_count, value_rule, stand_rule, entries_rule, known_rule, species_ranged, entry_ranged, rising_from, shares_of, inside}
+use Rattle.site.specs.Values.{count_rule, item_count, value_rule, stand_rule, composition_rule, entries_rule, known_rule, species_ranged, entry_ranged, rising_from, shares_of, inside}
 use Rattle.site.proofs.Tests.{le_or_lt, and_l, and_r}
 use Rattle.site.proofs.Passing.{pass_then, both_passed, inside_both, between_passed}
 use Rattle.site.proofs.PartLaws.{test_at}
@@ -61,14 +61,20 @@ stand_bounds list k s c v =
       each = each_bounds k s.stand.entries n (pass_then (list_all (entry_ranged k) es) OutOfRange _ (both_passed (entries_rule k es) (known_rule list es) v).0).0;
     }
 
--- the shares add up to 100
-share_bound : (list : List ℕ) (k : RecordKind) (s : Site) → value_rule list k 7 s ≡ Ok tt → shares_of (take s.stand.count s.stand.entries) ≡ share_sum
+-- the shares add up to 100, or there are none
+mixed_shares : (es : List Entry) → composition_rule es ≡ Ok tt → shares_of es ≤ share_sum
+unfolding composition_rule shares_of
+mixed_shares [] p = omega arith
+mixed_shares (e ∷ es) p =
+    let whole = (pass_then (rising_from 0 (e ∷ es)) NotRising _ p).1 in
+    let sum : shares_of (e ∷ es) ≡ share_sum = eqb-true _ _ (pass_then (eqb (shares_of (e ∷ es)) share_sum) SharesNotWhole (Ok tt) whole).0 in
+    omega arith
+
+share_bound : (list : List ℕ) (k : RecordKind) (s : Site) → value_rule list k 7 s ≡ Ok tt → shares_of (take s.stand.count s.stand.entries) ≤ share_sum
 unfolding value_rule stand_rule entries_rule
 share_bound list k s v =
     let es = take s.stand.count s.stand.entries in
-    let ordered = (pass_then (list_all (entry_ranged k) es) OutOfRange _ (both_passed (entries_rule k es) (known_rule list es) v).0).1 in
-    let whole = (pass_then (rising_from 0 es) NotRising _ ordered).1 in
-    eqb-true (shares_of es) share_sum (pass_then (eqb (shares_of es) share_sum) SharesNotWhole (Ok tt) whole).0
+    mixed_shares es (pass_then (list_all (entry_ranged k) es) OutOfRange _ (both_passed (entries_rule k es) (known_rule list es) v).0).1
 
 module _ (list : List ℕ) (s : Site) (e : site_rule list s ≡ Ok tt) where
   value_at_lem : (t : ℕ) → 1 ≤ t → t ≤ 15 → value_rule list s.kind t s ≡ Ok tt

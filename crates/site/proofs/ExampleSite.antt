@@ -1,11 +1,11 @@
 -- Site A1 of document 01 passes the check.
 use Rattle.std.specs.Prelude.{ℕ, ◌≡◌, refl, List, Ok}
 use Rattle.site.specs.Refusal.{and_then}
-use Rattle.site.specs.Values.{item_count, count_rule, name_byte, between, entry_ranged, rising_from, shares_of, entries_rule, species_known, known_rule, stand_rule, value_rule}
+use Rattle.site.specs.Values.{item_count, count_rule, name_byte, between, entry_ranged, rising_from, shares_of, composition_rule, entries_rule, species_known, known_rule, stand_rule, value_rule}
 use Rattle.site.specs.Check.{fields_rule, site_rule}
 use Rattle.site.specs.ExampleSite.{a1}
 
 -- whatever the list
 a1_passes : (list : List ℕ) → site_rule list a1 ≡ Ok tt
-unfolding site_rule fields_rule and_then item_count count_rule name_byte between entry_ranged rising_from shares_of entries_rule species_known known_rule stand_rule value_rule
+unfolding site_rule fields_rule and_then item_count count_rule name_byte between entry_ranged rising_from shares_of composition_rule entries_rule species_known known_rule stand_rule value_rule
 a1_passes list = refl

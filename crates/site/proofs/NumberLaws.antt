@@ -14,7 +14,7 @@ use Rattle.std.specs.List.{list_all}
 use Rattle.site.specs.Choice.{pick}
 use Rattle.site.specs.declared.ranges.Range.{Range}
 use Rattle.site.specs.Ranges.{share_sum}
-use Rattle.site.specs.Values.{items_of, item_count, count_rule, ranged, inside, between, entry_ranged, rising_from, shares_of, order_rule, entries_rule, species_known, known_rule, stand_rule, value_rules, value_rule}
+use Rattle.site.specs.Values.{items_of, item_count, count_rule, ranged, inside, between, entry_ranged, rising_from, shares_of, order_rule, composition_rule, entries_rule, species_known, known_rule, stand_rule, value_rules, value_rule}
 use Rattle.site.specs.Check.{fields_rule, site_rule}
 use Rattle.site.proofs.PartLaws.{all_get_d}
 
@@ -75,12 +75,14 @@ known_order true false = refl
 known_order false true = refl
 known_order false false = refl
 
+known_composition : (es : List Entry) → known (composition_rule es) ≡ true
+unfolding composition_rule
+known_composition [] = known_passed
+known_composition (e ∷ es) = known_order (rising_from 0 (e ∷ es)) (eqb (shares_of (e ∷ es)) share_sum)
+
 known_entries : (k : RecordKind) (es : List Entry) → known (entries_rule k es) ≡ true
 unfolding entries_rule known
-known_entries k es =
-    let rising = rising_from 0 es in
-    let whole = eqb (shares_of es) share_sum in
-    known_pick (list_all (entry_ranged k) es) (order_rule rising whole) (Err OutOfRange) (known_order rising whole) refl
+known_entries k es = known_pick (list_all (entry_ranged k) es) (composition_rule es) (Err OutOfRange) (known_composition es) refl
 
 known_stand : (list : List ℕ) (k : RecordKind) (es : List Entry) → known (stand_rule list k es) ≡ true
 unfolding stand_rule known_rule known
@@ -89,7 +91,7 @@ known_stand list k es =
 
 known_count : (t : ℕ) (s : Site) → known (count_rule t s) ≡ true
 unfolding count_rule known
-known_count t s = known_pick (leb 1 (item_count t s) && leb (item_count t s) (items_of s.kind t).most) (Ok tt) (Err BadLength) refl refl
+known_count t s = known_pick (leb (items_of s.kind t).least (item_count t s) && leb (item_count t s) (items_of s.kind t).most) (Ok tt) (Err BadLength) refl refl
 
 pub known_value : (list : List ℕ) (k : RecordKind) (t : ℕ) (s : Site) → known (value_rule list k t s) ≡ true
 unfolding value_rule

@@ -1,5 +1,6 @@
--- What the calculation leans on at a site that passes the check: upper bounds of its values, the least ratio, and what the shares add up to.
-use Rattle.std.specs.Prelude.{ℕ, ◌≤◌, ◌<◌, ◌≡◌, List, get_or, take}
+-- What the calculation leans on at a site that passes the check: upper bounds of its values and of the sum of its shares, which are none at a reserve, and the
+-- least ratio.
+use Rattle.std.specs.Prelude.{ℕ, ◌≤◌, ◌<◌, List, get_or, take}
 use Rattle.site.specs.declared.Site.{Site}
 use Rattle.site.specs.declared.Entry.{Entry}
 use Rattle.site.specs.Ranges.{parent_range, depth_range, percolation_range, most_entries, share_range, share_sum, most_yield, immobilisation_range, available_range, base_deposition_range, ratio_range, gibbsite_range, ceiling_range, leachate_range, temperature_range}
@@ -24,7 +25,7 @@ pub record Bounds (s : Site) : Type 0 where
   pub depth : s.depth ≤ depth_range.most
   pub percolation : s.percolation ≤ percolation_range.most
   pub stand : StandBounds s.stand.entries s.stand.count
-  pub shares : shares_of (take s.stand.count s.stand.entries) ≡ share_sum
+  pub shares : shares_of (take s.stand.count s.stand.entries) ≤ share_sum
   pub immobilisation : s.immobilisation ≤ immobilisation_range.most
   pub available : s.available ≤ available_range.most
   pub deposition : s.base_deposition ≤ base_deposition_range.most

@@ -13,48 +13,53 @@ use Rattle.site.specs.declared.RecordKind.{RecordKind}
 use Rattle.site.specs.Kinds.{two_byte_species, entry_width}
 use Rattle.site.specs.SpeciesList.{lists}
 
--- a field holds at least one and at most n items of w bytes each: the name its bytes, the stand its entries, every other field one value
-abbrev items : ℕ → ℕ → Items
-items w n = record { width = w; most = n }
+-- a field holds from l to n items of w bytes each: the name its bytes, the stand its entries, every other field one value
+abbrev items : ℕ → ℕ → ℕ → Items
+items w l n = record { width = w; least = l; most = n }
+
+abbrev pub one_value : ℕ → Items
+one_value w = items w 1 1
 
 abbrev pub no_items : Items
-no_items = items 1 0
+no_items = items 1 1 0
 
 -- the column "Bytes" of document 01, then document 02's, by tag from 0
 abbrev pub field_items : RecordKind → List Items
 field_items k =
     no_items
-    ∷ items 1 most_name  -- 01 name
-    ∷ items 1 1  -- 02 parent material
-    ∷ items 2 1  -- 03 clay, sand
-    ∷ items 1 1  -- 04 depth
-    ∷ items 1 1  -- 05 drainage
-    ∷ items 2 1  -- 06 percolation
-    ∷ items (entry_width k) most_entries  -- 07 stand
-    ∷ items 2 1  -- 08 immobilisation
-    ∷ items 1 1  -- 09 available share
-    ∷ items 2 1  -- 0A base cation deposition
-    ∷ items 2 1  -- 0B ratio
-    ∷ items 2 1  -- 0C gibbsite constant
-    ∷ items 2 1  -- 0D ceiling
-    ∷ items 2 1  -- 0E leachate
-    ∷ items 4 1  -- 0F deposition
-    ∷ items 1 1  -- 10 temperature
+    ∷ items 1 1 most_name  -- 01 name
+    ∷ one_value 1  -- 02 parent material
+    ∷ one_value 2  -- 03 clay, sand
+    ∷ one_value 1  -- 04 depth
+    ∷ one_value 1  -- 05 drainage
+    ∷ one_value 2  -- 06 percolation
+    ∷ items (entry_width k) 0 most_entries  -- 07 stand: a reserve has no entries (document 02, E8)
+    ∷ one_value 2  -- 08 immobilisation
+    ∷ one_value 1  -- 09 available share
+    ∷ one_value 2  -- 0A base cation deposition
+    ∷ one_value 2  -- 0B ratio
+    ∷ one_value 2  -- 0C gibbsite constant
+    ∷ one_value 2  -- 0D ceiling
+    ∷ one_value 2  -- 0E leachate
+    ∷ one_value 4  -- 0F deposition
+    ∷ one_value 1  -- 10 temperature
     ∷ []
 
 abbrev pub items_of : RecordKind → ℕ → Items
 items_of k t = get_or (field_items k) t no_items
 
--- rule 7 for n bytes: a whole number of items, at least one
+-- rule 7 for n bytes: a whole number of items, as many as are permitted
 unfoldable pub length_permitted : RecordKind → ℕ → ℕ → Bool
-length_permitted k t n = leb 1 n && leb n ((items_of k t).width * (items_of k t).most) && eqb (n % (items_of k t).width) 0
+length_permitted k t n =
+    leb ((items_of k t).width * (items_of k t).least) n && leb n ((items_of k t).width * (items_of k t).most) && eqb (n % (items_of k t).width) 0
 
 -- rule 7 for a site value
 unfoldable pub item_count : ℕ → Site → ℕ
 item_count t s = pick (eqb t 1) s.name.len (pick (eqb t 7) s.stand.count 1)
 
 unfoldable pub count_rule : ℕ → Site → Checked
-count_rule t s = pick (leb 1 (item_count t s) && leb (item_count t s) (items_of s.kind t).most) (Ok tt) (Err BadLength)
+count_rule t s =
+    pick (leb (items_of s.kind t).least (item_count t s) && leb (item_count t s) (items_of s.kind t).most) (Ok tt) (Err BadLength)
 
 -- A–Z, 0–9, hyphen
 unfoldable pub name_byte : ℕ → Bool
@@ -90,9 +95,14 @@ shares_of (e ∷ es) = e.share + shares_of es
 abbrev pub order_rule : Bool → Bool → Checked
 order_rule rising whole = pick rising (pick whole (Ok tt) (Err SharesNotWhole)) (Err NotRising)
 
--- rule 8 over all entries, then 9, then 10
+-- rules 9 and 10 of a stand; they don't apply to a reserve, which has no entries (document 02, E8)
+unfoldable pub composition_rule : List Entry → Checked
+composition_rule [] = Ok tt
+composition_rule (e ∷ es) = order_rule (rising_from 0 (e ∷ es)) (eqb (shares_of (e ∷ es)) share_sum)
+
+-- rule 8 over all entries, then 9 and 10
 unfoldable pub entries_rule : RecordKind → List Entry → Checked
-entries_rule k es = pick (list_all (entry_ranged k) es) (order_rule (rising_from 0 es) (eqb (shares_of es) share_sum)) (Err OutOfRange)
+entries_rule k es = pick (list_all (entry_ranged k) es) (composition_rule es) (Err OutOfRange)
 
 -- the species stands in the table or in the list
 unfoldable pub species_known : List ℕ → Entry → Bool

@@ -1,14 +1,27 @@
 // Rule 7, for the bytes of a field and for a site value.
 ghost use Rattle.std.specs.Prelude.{◌≡◌};
-ghost use Rattle.site.specs.Values.{items_of, length_permitted, item_count, count_rule};
+ghost use Rattle.site.specs.Values.{one_value, items_of, length_permitted, item_count, count_rule};
 
 use crate::{RecordKind, Rule, Site};
 
-// How many bytes an item of a field has, and how many items there may be.
+// How many bytes an item of a field has, and how few and how many items there may be.
 #[derive(Clone, Copy)]
 struct Items {
     width: usize,
+    least: usize,
     most: usize,
+}
+
+impl Items {
+    fn one_value(width: usize) -> Items
+        ensures { result ≡ one_value width }
+    {
+        Items {
+            width,
+            least: 1,
+            most: 1,
+        }
+    }
 }
 
 // A match and no constant array, which would be set up anew at each call.
@@ -17,38 +30,45 @@ fn items_of(kind: RecordKind, tag: u8) -> Items
     ensures { result ≡ items_of kind tag }
 {
     match tag {
-        1 => Items { width: 1, most: 8 },
-        2 => Items { width: 1, most: 1 },
-        3 => Items { width: 2, most: 1 },
-        4 => Items { width: 1, most: 1 },
-        5 => Items { width: 1, most: 1 },
-        6 => Items { width: 2, most: 1 },
+        1 => Items {
+            width: 1,
+            least: 1,
+            most: 8,
+        },
+        2 => Items::one_value(1),
+        3 => Items::one_value(2),
+        4 => Items::one_value(1),
+        5 => Items::one_value(1),
+        6 => Items::one_value(2),
+        // a reserve has no entries
         7 => Items {
             width: kind.entry_width(),
+            least: 0,
             most: 4,
         },
-        8 => Items { width: 2, most: 1 },
-        9 => Items { width: 1, most: 1 },
-        10 => Items { width: 2, most: 1 },
-        11 => Items { width: 2, most: 1 },
-        12 => Items { width: 2, most: 1 },
-        13 => Items { width: 2, most: 1 },
-        14 => Items { width: 2, most: 1 },
-        15 => Items { width: 4, most: 1 },
-        16 => Items { width: 1, most: 1 },
-        _ => Items { width: 1, most: 0 },
+        8 => Items::one_value(2),
+        9 => Items::one_value(1),
+        10 => Items::one_value(2),
+        11 => Items::one_value(2),
+        12 => Items::one_value(2),
+        13 => Items::one_value(2),
+        14 => Items::one_value(2),
+        15 => Items::one_value(4),
+        16 => Items::one_value(1),
+        _ => Items {
+            width: 1,
+            least: 1,
+            most: 0,
+        },
     }
 }
 
-#[tactic(auto, using(crate::proofs::LengthLaws::width_positive, crate::proofs::LengthLaws::longest, crate::proofs::LengthLaws::permitted_none, crate::proofs::LengthLaws::permitted_more, crate::proofs::LengthLaws::permitted_items))]
+#[tactic(auto, using(crate::proofs::LengthLaws::width_positive, crate::proofs::LengthLaws::longest, crate::proofs::LengthLaws::permitted_fewer, crate::proofs::LengthLaws::permitted_more, crate::proofs::LengthLaws::permitted_items))]
 pub fn length_permitted(kind: RecordKind, tag: u8, n: usize) -> bool
     ensures { result ≡ length_permitted kind tag n }
 {
-    if n < 1 {
-        return false;
-    }
     let items = items_of(kind, tag);
-    if items.width * items.most < n {
+    if n < items.width * items.least || items.width * items.most < n {
         return false;
     }
     // most fields are one item, and need no division
@@ -71,7 +91,8 @@ pub fn count_rule(site: &Site, tag: u8) -> Result<(), Rule>
     ensures { result ≡ count_rule tag site.now }
 {
     let n = item_count(site, tag);
-    if n < 1 || items_of(site.kind, tag).most < n {
+    let items = items_of(site.kind, tag);
+    if n < items.least || items.most < n {
         return Err(Rule::BadLength);
     }
     Ok(())

@@ -72,16 +72,21 @@ impl Stand {
         &self.entries[..usize::from(self.count).min(4)]
     }
 
-    #[tactic(auto, using(crate::proofs::BoundsLaw::entry_bounds, crate::proofs::StandLaws::rest_rule, crate::proofs::StandLaws::rest_start, crate::proofs::StandLaws::rest_end, crate::proofs::StandLaws::rest_next, crate::proofs::StandLaws::rest_stop))]
+    #[tactic(auto, using(crate::proofs::BoundsLaw::entry_bounds, crate::proofs::StandLaws::rest_rule, crate::proofs::StandLaws::no_entries, crate::proofs::StandLaws::rest_start, crate::proofs::StandLaws::rest_end, crate::proofs::StandLaws::rest_next, crate::proofs::StandLaws::rest_stop))]
     fn check_entries(&self, kind: RecordKind) -> Result<(), Rule>
         ensures { result ≡ entries_rule kind (take self.now.count self.now.entries) }
     {
+        let entries = self.as_slice();
+        // a reserve has none, and rules 9 and 10 don't apply to it
+        if entries.is_empty() {
+            return Ok(());
+        }
         let mut seen = Seen {
             rising: true,
             least: 0,
             shares: 0,
         };
-        for e in self.as_slice() {
+        for e in entries {
             if !entry_ranged(kind, *e) {
                 return Err(Rule::OutOfRange);
             }
