@@ -40,24 +40,24 @@ no_length (x ∷ bs) e = absurd (omega arith)
 
 -- ---- the count of entries in n bytes
 
-pub counted : (k : RecordKind) (n : ℕ) → 1 ≤ n → n ≤ entry_width k * 4 → n % entry_width k ≡ 0
-    → (entry_width k * (n / entry_width k) ≡ n) × (1 ≤ n / entry_width k) × (n / entry_width k ≤ 4)
-counted k n some most whole = by_width (two_byte_species k) most whole
+pub counted : (k : RecordKind) (n : ℕ) → n ≤ entry_width k * 4 → n % entry_width k ≡ 0
+    → (entry_width k * (n / entry_width k) ≡ n) × (n / entry_width k ≤ 4)
+counted k n most whole = by_width (two_byte_species k) most whole
   where
     by_width : (wide : Bool) → n ≤ pick wide 5 4 * 4 → n % pick wide 5 4 ≡ 0
-        → (pick wide 5 4 * (n / pick wide 5 4) ≡ n) × (1 ≤ n / pick wide 5 4) × (n / pick wide 5 4 ≤ 4)
-    by_width true m w = (omega arith, omega arith, omega arith)
-    by_width false m w = (omega arith, omega arith, omega arith)
+        → (pick wide 5 4 * (n / pick wide 5 4) ≡ n) × (n / pick wide 5 4 ≤ 4)
+    by_width true m w = (omega arith, omega arith)
+    by_width false m w = (omega arith, omega arith)
 
--- the bytes of n entries, 1 to 4
-pub entries_span : (k : RecordKind) (n : ℕ) → 1 ≤ n → n ≤ 4
-    → (1 ≤ entry_width k * n) × (entry_width k * n ≤ entry_width k * 4) × (entry_width k * n % entry_width k ≡ 0) × (entry_width k * n / entry_width k ≡ n)
-entries_span k n some most = by_width (two_byte_species k)
+-- the bytes of n entries, at most 4
+pub entries_span : (k : RecordKind) (n : ℕ) → n ≤ 4
+    → (entry_width k * n ≤ entry_width k * 4) × (entry_width k * n % entry_width k ≡ 0) × (entry_width k * n / entry_width k ≡ n)
+entries_span k n most = by_width (two_byte_species k)
   where
     by_width : (wide : Bool)
-        → (1 ≤ pick wide 5 4 * n) × (pick wide 5 4 * n ≤ pick wide 5 4 * 4) × (pick wide 5 4 * n % pick wide 5 4 ≡ 0) × (pick wide 5 4 * n / pick wide 5 4 ≡ n)
-    by_width true = (omega arith, omega arith, omega arith, omega arith)
-    by_width false = (omega arith, omega arith, omega arith, omega arith)
+        → (pick wide 5 4 * n ≤ pick wide 5 4 * 4) × (pick wide 5 4 * n % pick wide 5 4 ≡ 0) × (pick wide 5 4 * n / pick wide 5 4 ≡ n)
+    by_width true = (omega arith, omega arith, omega arith)
+    by_width false = (omega arith, omega arith, omega arith)
 
 -- ---- one entry
 

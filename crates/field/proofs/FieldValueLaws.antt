@@ -28,9 +28,9 @@ module _ (s : Site) (z : Sized s) where
     name_long = simp length-take (omega (arith, z.name, name_counts))
 
   module _ (c : count_rule 7 s ≡ Ok tt) where
-    pub stand_counts : (1 ≤ s.stand.count) × (s.stand.count ≤ 4)
+    pub stand_counts : s.stand.count ≤ 4
     unfolding item_count
-    stand_counts = count_parts 7 s c
+    stand_counts = (count_parts 7 s c).1
 
     pub stand_long : length (take s.stand.count s.stand.entries) ≡ s.stand.count
     stand_long = simp length-take (omega (arith, z.stand, stand_counts))

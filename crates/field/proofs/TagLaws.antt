@@ -1,5 +1,5 @@
 -- The fields of a site by tag: what was stored is written, what is written is read, and other fields stay.
-use mathlib.Core.Path.{◌≡◌, refl, sym, ◌∙◌}
+use mathlib.Core.Path.{◌≡◌, refl, sym}
 use mathlib.Core.Bool.{true}
 use mathlib.Core.List.{List, [], ◌∷◌, ◌++◌}
 use Prim.Native.Nat.{ℕ, ◌+◌, ◌*◌, ◌/◌, ◌≤◌}
@@ -19,7 +19,7 @@ use Rattle.site.specs.Ranges.{parent_range, depth_range, drainage_range, percola
 use Rattle.site.specs.declared.RecordKind.{RecordKind}
 use Rattle.site.specs.declared.RecordKind.TheVariants.{Tag52, Tag53, Tag54}
 use Rattle.site.specs.Kinds.{due, entry_width}
-use Rattle.site.specs.Values.{items_of, length_permitted, item_count, count_rule, value_rule, ranged, between}
+use Rattle.site.specs.Values.{one_value, items_of, length_permitted, item_count, count_rule, value_rule, ranged, between}
 use Rattle.site.proofs.LengthLaws.{permitted_parts, parts_permitted, parts_counted, one_item}
 use Rattle.numbers.specs.TwoBytes.{AllBytes}
 use Rattle.field.specs.Clean.{Sized}
@@ -35,14 +35,14 @@ use Rattle.field.proofs.FieldValueLaws.{name_counts, name_long, stand_counts, st
 name_kept : (k : RecordKind) (v : List ℕ) → length_permitted k 1 (length v) ≡ true → take (length v) (tabulate 8 (λ i. get_or v i 0)) ≡ v
 name_kept k v p = let q = permitted_parts k 1 (length v) p in take-tabulate 8 v 0 (omega arith)
 
--- the bytes of a stand are those of 1 to 4 entries
+-- the bytes of a stand are those of its entries, at most 4
 stand_span : (k : RecordKind) (v : List ℕ) → length_permitted k 7 (length v) ≡ true
-    → (entry_width k * (length v / entry_width k) ≡ length v) × (1 ≤ length v / entry_width k) × (length v / entry_width k ≤ 4)
-stand_span k v p = let q = permitted_parts k 7 (length v) p in counted k (length v) q.0 q.1 q.2
+    → (entry_width k * (length v / entry_width k) ≡ length v) × (length v / entry_width k ≤ 4)
+stand_span k v p = let q = permitted_parts k 7 (length v) p in counted k (length v) q.1 q.2
 
 stand_kept : (k : RecordKind) (v : List ℕ) → length_permitted k 7 (length v) ≡ true → AllBytes v
     → entries_bytes k (take (length v / entry_width k) (tabulate 4 (λ i. entry_at k v (entry_width k * i)))) ≡ v
-stand_kept k v p b = let q = stand_span k v p in entries_back k (length v / entry_width k) 4 v q.2 (sym q.0) b
+stand_kept k v p b = let q = stand_span k v p in entries_back k (length v / entry_width k) 4 v q.1 (sym q.0) b
 
 -- ---- what reading a field leaves in a site
 
@@ -88,7 +88,7 @@ module _ (k : RecordKind) where
 
   stand_own : (v : List ℕ) (x : Site) → length_permitted k 7 (length v) ≡ true → Counted 7 (store k 7 v x)
   unfolding store item_count Tidy
-  stand_own v x p = let q = stand_span k v p in (parts_counted 7 (store k 7 v x) q.1 q.2, stand_clean v p)
+  stand_own v x p = let q = stand_span k v p in (parts_counted 7 (store k 7 v x) (omega arith) q.1, stand_clean v p)
 
   name_other : (u : ℕ) (v : List ℕ) (x : Site) → (u ≡ 1 → ⊥) → Counted 1 x → Counted 1 (store k u v x)
   unfolding store count_rule item_count Tidy
@@ -123,9 +123,9 @@ module _ (list : List ℕ) (k : RecordKind) where
     again = λ s z c e. one.again s e;
   }
 
-  -- by the table of lengths: one item of w bytes
-  one-length : (t w : ℕ) → (items_of k t).most ≡ 1 → (items_of k t).width ≡ w → length_permitted k t w ≡ true → OneLength K t w
-  one-length t w one wide ok = (λ n p. one_item k t n one p ∙ wide, ok)
+  -- by the table of lengths: one value of w bytes
+  one-length : (t w : ℕ) → items_of k t ≡ one_value w → length_permitted k t w ≡ true → OneLength K t w
+  one-length t w one ok = (λ n p. one_item k t n w one p, ok)
 
   -- a field of many items
   many_part : (t : ℕ) → Kept K t
@@ -159,8 +159,8 @@ module _ (list : List ℕ) (k : RecordKind) where
       let few = stand_counts s z c in
       let n4 : length es ≤ 4 = omega arith in
       let t : take s.stand.count (tabulate 4 (λ i. get_or es i no_entry)) ≡ es = rw l at (take-tabulate 4 es no_entry n4) in
-      let q = entries_span k s.stand.count few.0 few.1 in
-      rw (bytes_long s z c k, parts_permitted k 7 (entry_width k * s.stand.count) q.0 q.1 q.2, q.3, stand_back k 4 es (entries_ranged list k s e), t) e
+      let q = entries_span k s.stand.count few in
+      rw (bytes_long s z c k, parts_permitted k 7 (entry_width k * s.stand.count) (omega arith) q.0 q.1, q.2, stand_back k 4 es (entries_ranged list k s e), t) e
 
   name_tag : TagLaws 1
   unfolding value value_rule store
@@ -183,26 +183,26 @@ module _ (list : List ℕ) (k : RecordKind) where
   unfolding value value_rule store count_rule item_count Tidy length_permitted
   with_first_fifteen ts more =
       name_tag
-      ▸ one_tag 2 (byte_item K 2 (λ s. s.parent) (between parent_range) (one-length 2 1 refl refl refl) (λ s v. (refl, refl, refl)) (λ u v x h. rw (ne_eqb u 2 h))) (λ s. (refl, tt))
-      ▸ one_tag 3 (pair_item K 3 (λ s. (s.clay, s.sand)) (λ b. ranged (leb (b.0 + b.1) 100)) (one-length 3 2 refl refl refl) (λ s v. (refl, refl, refl)) (λ u v x h. rw (ne_eqb u 3 h))) (λ s. (refl, tt))
-      ▸ one_tag 4 (byte_item K 4 (λ s. s.depth) (between depth_range) (one-length 4 1 refl refl refl) (λ s v. (refl, refl, refl)) (λ u v x h. rw (ne_eqb u 4 h))) (λ s. (refl, tt))
-      ▸ one_tag 5 (byte_item K 5 (λ s. s.drainage) (between drainage_range) (one-length 5 1 refl refl refl) (λ s v. (refl, refl, refl)) (λ u v x h. rw (ne_eqb u 5 h))) (λ s. (refl, tt))
-      ▸ one_tag 6 (word_item K 6 (λ s. s.percolation) (between percolation_range) (one-length 6 2 refl refl refl) (λ s v. (refl, refl, refl)) (λ u v x h. rw (ne_eqb u 6 h))) (λ s. (refl, tt))
+      ▸ one_tag 2 (byte_item K 2 (λ s. s.parent) (between parent_range) (one-length 2 1 refl refl) (λ s v. (refl, refl, refl)) (λ u v x h. rw (ne_eqb u 2 h))) (λ s. (refl, tt))
+      ▸ one_tag 3 (pair_item K 3 (λ s. (s.clay, s.sand)) (λ b. ranged (leb (b.0 + b.1) 100)) (one-length 3 2 refl refl) (λ s v. (refl, refl, refl)) (λ u v x h. rw (ne_eqb u 3 h))) (λ s. (refl, tt))
+      ▸ one_tag 4 (byte_item K 4 (λ s. s.depth) (between depth_range) (one-length 4 1 refl refl) (λ s v. (refl, refl, refl)) (λ u v x h. rw (ne_eqb u 4 h))) (λ s. (refl, tt))
+      ▸ one_tag 5 (byte_item K 5 (λ s. s.drainage) (between drainage_range) (one-length 5 1 refl refl) (λ s v. (refl, refl, refl)) (λ u v x h. rw (ne_eqb u 5 h))) (λ s. (refl, tt))
+      ▸ one_tag 6 (word_item K 6 (λ s. s.percolation) (between percolation_range) (one-length 6 2 refl refl) (λ s v. (refl, refl, refl)) (λ u v x h. rw (ne_eqb u 6 h))) (λ s. (refl, tt))
       ▸ stand_tag
-      ▸ one_tag 8 (word_item K 8 (λ s. s.immobilisation) (between immobilisation_range) (one-length 8 2 refl refl refl) (λ s v. (refl, refl, refl)) (λ u v x h. rw (ne_eqb u 8 h))) (λ s. (refl, tt))
-      ▸ one_tag 9 (byte_item K 9 (λ s. s.available) (between available_range) (one-length 9 1 refl refl refl) (λ s v. (refl, refl, refl)) (λ u v x h. rw (ne_eqb u 9 h))) (λ s. (refl, tt))
-      ▸ one_tag 10 (word_item K 10 (λ s. s.base_deposition) (between base_deposition_range) (one-length 10 2 refl refl refl) (λ s v. (refl, refl, refl)) (λ u v x h. rw (ne_eqb u 10 h))) (λ s. (refl, tt))
-      ▸ one_tag 11 (word_item K 11 (λ s. s.ratio) (between ratio_range) (one-length 11 2 refl refl refl) (λ s v. (refl, refl, refl)) (λ u v x h. rw (ne_eqb u 11 h))) (λ s. (refl, tt))
-      ▸ one_tag 12 (word_item K 12 (λ s. s.gibbsite) (between gibbsite_range) (one-length 12 2 refl refl refl) (λ s v. (refl, refl, refl)) (λ u v x h. rw (ne_eqb u 12 h))) (λ s. (refl, tt))
-      ▸ one_tag 13 (word_item K 13 (λ s. s.ceiling) (between ceiling_range) (one-length 13 2 refl refl refl) (λ s v. (refl, refl, refl)) (λ u v x h. rw (ne_eqb u 13 h))) (λ s. (refl, tt))
-      ▸ one_tag 14 (word_item K 14 (λ s. s.leachate) (between leachate_range) (one-length 14 2 refl refl refl) (λ s v. (refl, refl, refl)) (λ u v x h. rw (ne_eqb u 14 h))) (λ s. (refl, tt))
-      ▸ one_tag 15 (words_item K 15 (λ s. (s.sulphur, s.nitrogen)) (λ b. (Ok tt)) (one-length 15 4 refl refl refl) (λ s v. (refl, refl, refl)) (λ u v x h. rw (ne_eqb u 15 h))) (λ s. (refl, tt))
+      ▸ one_tag 8 (word_item K 8 (λ s. s.immobilisation) (between immobilisation_range) (one-length 8 2 refl refl) (λ s v. (refl, refl, refl)) (λ u v x h. rw (ne_eqb u 8 h))) (λ s. (refl, tt))
+      ▸ one_tag 9 (byte_item K 9 (λ s. s.available) (between available_range) (one-length 9 1 refl refl) (λ s v. (refl, refl, refl)) (λ u v x h. rw (ne_eqb u 9 h))) (λ s. (refl, tt))
+      ▸ one_tag 10 (word_item K 10 (λ s. s.base_deposition) (between base_deposition_range) (one-length 10 2 refl refl) (λ s v. (refl, refl, refl)) (λ u v x h. rw (ne_eqb u 10 h))) (λ s. (refl, tt))
+      ▸ one_tag 11 (word_item K 11 (λ s. s.ratio) (between ratio_range) (one-length 11 2 refl refl) (λ s v. (refl, refl, refl)) (λ u v x h. rw (ne_eqb u 11 h))) (λ s. (refl, tt))
+      ▸ one_tag 12 (word_item K 12 (λ s. s.gibbsite) (between gibbsite_range) (one-length 12 2 refl refl) (λ s v. (refl, refl, refl)) (λ u v x h. rw (ne_eqb u 12 h))) (λ s. (refl, tt))
+      ▸ one_tag 13 (word_item K 13 (λ s. s.ceiling) (between ceiling_range) (one-length 13 2 refl refl) (λ s v. (refl, refl, refl)) (λ u v x h. rw (ne_eqb u 13 h))) (λ s. (refl, tt))
+      ▸ one_tag 14 (word_item K 14 (λ s. s.leachate) (between leachate_range) (one-length 14 2 refl refl) (λ s v. (refl, refl, refl)) (λ u v x h. rw (ne_eqb u 14 h))) (λ s. (refl, tt))
+      ▸ one_tag 15 (words_item K 15 (λ s. (s.sulphur, s.nitrogen)) (λ b. (Ok tt)) (one-length 15 4 refl refl) (λ s v. (refl, refl, refl)) (λ u v x h. rw (ne_eqb u 15 h))) (λ s. (refl, tt))
       ▸ more
 
   temperature_tag : TagLaws 16
   unfolding value value_rule store count_rule item_count Tidy length_permitted
   temperature_tag =
-      one_tag 16 (byte_item K 16 (λ s. s.temperature) (between temperature_range) (one-length 16 1 refl refl refl) (λ s v. (refl, refl, refl)) (λ u v x h. rw (ne_eqb u 16 h))) (λ s. (refl, tt))
+      one_tag 16 (byte_item K 16 (λ s. s.temperature) (between temperature_range) (one-length 16 1 refl refl) (λ s v. (refl, refl, refl)) (λ u v x h. rw (ne_eqb u 16 h))) (λ s. (refl, tt))
 
 pub tags : (list : List ℕ) (k : RecordKind) → All (TagLaws list k) (due k)
 tags list Tag52 = with_first_fifteen list Tag52 [] none
