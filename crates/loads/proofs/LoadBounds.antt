@@ -2,7 +2,7 @@
 use Prim.Native.Nat.{ℕ, suc, ◌*◌, ◌/◌, ◌≤◌, ◌<◌}
 use mathlib.Core.List.{List, [], ◌∷◌}
 use native.Mathlib.Omega.{arith}
-use native.Mathlib.Nat.{mul_assoc, mul-le-mul_left, add-mul, zero-mul}
+use native.Mathlib.Nat.{le_trans, mul_assoc, mul-le-mul_left, mul-le-mul_right, add-mul, zero-mul}
 use lib.ListN.{get_or, length, take}
 use Rattle.std.specs.List.{sum_by}
 use Rattle.std.proofs.lemmas.List.Sums.{sum_by-cons}
@@ -45,7 +45,9 @@ module _ (f : ℕ → ℕ) (m : ℕ) (each : (x : ℕ) → f x ≤ m) where
 
   stand_le : (s : Site) → Bounds s → stand_sum f s.stand.entries s.stand.count ≤ share_sum * (most_yield * m)
   unfolding stand_sum
-  stand_le s b = rw b.shares at (sum_le (take s.stand.count s.stand.entries) (entries_bounds s.stand.entries s.stand.count b.stand).each)
+  stand_le s b =
+      le_trans (sum_le (take s.stand.count s.stand.entries) (entries_bounds s.stand.entries s.stand.count b.stand).each)
+      (mul-le-mul_right (most_yield * m) b.shares)
 
 -- a thousandfold, by e
 part_le : (list : List ℕ) (s : Site) (x most : ℕ) → x ≤ most → 1000 * x / (terms_of list s).e ≤ 1000 * most / least_e

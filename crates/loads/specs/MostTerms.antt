@@ -42,7 +42,7 @@ most_nitrogen_weight = share_range.most * most_yield * 65535
 abbrev pub most_base_weight : ℕ
 most_base_weight = share_range.most * most_yield * (3 * 65535)
 
--- Nu, of shares that add up to 100; 13107
+-- Nu, of shares that add up to 100, or of none; 13107
 abbrev pub most_nu : ℕ
 most_nu = share_sum * most_yield * 65535 / uptake_divisor
 
