@@ -10,7 +10,7 @@ use Rattle.site.specs.Kinds.{counted_temperature}
 use Rattle.site.specs.Bytes.{tabulate, entry_at}
 use Rattle.site.specs.Refusal.{and_then, unless}
 use Rattle.site.specs.SpeciesList.{first_failing, place_of, lists}
-use Rattle.site.specs.Values.{length_permitted, value_rule, stand_rule, entries_rule, known_rule, species_known, between, name_byte, entry_ranged, rising_from, shares_of}
+use Rattle.site.specs.Values.{length_permitted, value_rule, stand_rule, composition_rule, entries_rule, known_rule, species_known, between, name_byte, entry_ranged, rising_from, shares_of}
 use Rattle.site.specs.declared.RecordKind.TheVariants.{Tag52, Tag53, Tag54}
 use Rattle.site.specs.declared.Rule.TheVariants.{NotConvertible}
 use Rattle.site.specs.declared.Site.{Site}
@@ -72,9 +72,9 @@ abbrev bytes_warm : List ℕ
 bytes_warm = 83 ∷ 0 ∷ 79 ∷ drop 3 bytes_a1 ++ 16 ∷ 0 ∷ 1 ∷ 14 ∷ []
 
 numbered_17 : result_numbers (converted Tag52 (contents [] bytes_warm)) ≡ (17, 78)
-unfolding result_numbers converted contents contents_by walk_file onto first site_at record_in ending outer_rule head_rule unless walk_fields field_rule length_permitted tabulate entry_at store value_rule and_then stand_rule entries_rule known_rule species_known lists place_of first_failing between name_byte entry_ranged rising_from shares_of blank_of blank_site site_tag site_kinds all_moved if_convertible species_convertible temperature_convertible field_start counted_temperature moved encode_as encode_fields field_of value entry_bytes entries_bytes
+unfolding result_numbers converted contents contents_by walk_file onto first site_at record_in ending outer_rule head_rule unless walk_fields field_rule length_permitted tabulate entry_at store value_rule and_then stand_rule composition_rule entries_rule known_rule species_known lists place_of first_failing between name_byte entry_ranged rising_from shares_of blank_of blank_site site_tag site_kinds all_moved if_convertible species_convertible temperature_convertible field_start counted_temperature moved encode_as encode_fields field_of value entry_bytes entries_bytes
 numbered_17 = refl
 
 own_fault_first : result_numbers (converted Tag52 (contents [] (bytes_warm ++ 85 ∷ 0 ∷ 0 ∷ []))) ≡ (3, 82)
-unfolding result_numbers converted contents contents_by walk_file onto first site_at record_in ending outer_rule head_rule unless walk_fields field_rule length_permitted tabulate entry_at store value_rule and_then stand_rule entries_rule known_rule species_known lists place_of first_failing between name_byte entry_ranged rising_from shares_of blank_of blank_site site_tag site_kinds all_moved if_convertible species_convertible temperature_convertible field_start counted_temperature moved encode_as encode_fields field_of value entry_bytes entries_bytes
+unfolding result_numbers converted contents contents_by walk_file onto first site_at record_in ending outer_rule head_rule unless walk_fields field_rule length_permitted tabulate entry_at store value_rule and_then stand_rule composition_rule entries_rule known_rule species_known lists place_of first_failing between name_byte entry_ranged rising_from shares_of blank_of blank_site site_tag site_kinds all_moved if_convertible species_convertible temperature_convertible field_start counted_temperature moved encode_as encode_fields field_of value entry_bytes entries_bytes
 own_fault_first = refl

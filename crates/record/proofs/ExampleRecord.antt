@@ -11,7 +11,7 @@ use Rattle.site.specs.ExampleSite.{a1}
 use Rattle.site.specs.Bytes.{tabulate, entry_at}
 use Rattle.field.specs.Field.{store, entry_bytes, entries_bytes, blank_site, blank_of, value}
 use Rattle.field.specs.Kind.{field_rule}
-use Rattle.site.specs.Values.{length_permitted, value_rule, stand_rule, entries_rule, known_rule, species_known, between, name_byte, entry_ranged, rising_from, shares_of}
+use Rattle.site.specs.Values.{length_permitted, value_rule, stand_rule, composition_rule, entries_rule, known_rule, species_known, between, name_byte, entry_ranged, rising_from, shares_of}
 use Rattle.record.specs.FieldParts.{field_of}
 use Rattle.site.specs.Refusal.{and_then, unless}
 use Rattle.site.specs.SpeciesList.{first_failing, good_entry, least_at, first_bad, list_rule, place_of, lists}
@@ -43,7 +43,7 @@ bytes_a1 =
 
 -- whatever the list
 pub a1_read : (list : List ℕ) → read_record list bytes_a1 ≡ Ok a1
-unfolding read_record single only_one site_at record_in ending outer_rule head_rule unless walk_fields field_rule length_permitted tabulate entry_at store value_rule and_then stand_rule entries_rule known_rule species_known lists place_of first_failing between name_byte entry_ranged rising_from shares_of blank_of blank_site site_tag site_kinds
+unfolding read_record single only_one site_at record_in ending outer_rule head_rule unless walk_fields field_rule length_permitted tabulate entry_at store value_rule and_then stand_rule composition_rule entries_rule known_rule species_known lists place_of first_failing between name_byte entry_ranged rising_from shares_of blank_of blank_site site_tag site_kinds
 a1_read list = refl
 
 pub a1_written : encode a1 ≡ bytes_a1
@@ -58,7 +58,7 @@ abbrev a1_20 : Site
 a1_20 = record a1 { kind = Tag53; temperature = 25 }
 
 a1_20_read : (list : List ℕ) → read_record list bytes_a1_20 ≡ Ok a1_20
-unfolding read_record single only_one site_at record_in ending outer_rule head_rule unless walk_fields field_rule length_permitted tabulate entry_at store value_rule and_then stand_rule entries_rule known_rule species_known lists place_of first_failing between name_byte entry_ranged rising_from shares_of blank_of blank_site site_tag site_kinds
+unfolding read_record single only_one site_at record_in ending outer_rule head_rule unless walk_fields field_rule length_permitted tabulate entry_at store value_rule and_then stand_rule composition_rule entries_rule known_rule species_known lists place_of first_failing between name_byte entry_ranged rising_from shares_of blank_of blank_site site_tag site_kinds
 a1_20_read list = refl
 
 a1_20_written : encode a1_20 ≡ bytes_a1_20
@@ -92,7 +92,7 @@ a1_54 = record a1_20 {
 }
 
 a1_54_read : read_record one_species bytes_a1_54 ≡ Ok a1_54
-unfolding read_record single only_one site_at record_in ending outer_rule head_rule unless walk_fields field_rule length_permitted tabulate entry_at store value_rule and_then stand_rule entries_rule known_rule species_known lists place_of first_failing between name_byte entry_ranged rising_from shares_of blank_of blank_site site_tag site_kinds
+unfolding read_record single only_one site_at record_in ending outer_rule head_rule unless walk_fields field_rule length_permitted tabulate entry_at store value_rule and_then stand_rule composition_rule entries_rule known_rule species_known lists place_of first_failing between name_byte entry_ranged rising_from shares_of blank_of blank_site site_tag site_kinds
 a1_54_read = refl
 
 a1_54_written : encode a1_54 ≡ bytes_a1_54

@@ -8,7 +8,7 @@ use Rattle.site.specs.Refusal.{and_then, unless}
 use Rattle.site.specs.SpeciesList.{first_failing, place_of, lists}
 use Rattle.site.specs.Check.{fields_rule, site_rule}
 use Rattle.site.specs.Bytes.{tabulate, entry_at}
-use Rattle.site.specs.Values.{length_permitted, item_count, count_rule, value_rule, stand_rule, entries_rule, known_rule, species_known, between, name_byte, entry_ranged, rising_from, shares_of}
+use Rattle.site.specs.Values.{length_permitted, item_count, count_rule, value_rule, stand_rule, composition_rule, entries_rule, known_rule, species_known, between, name_byte, entry_ranged, rising_from, shares_of}
 use Rattle.field.specs.Field.{store, entry_bytes, entries_bytes, blank_site, blank_of, value}
 use Rattle.field.specs.Kind.{field_rule}
 use Rattle.output.specs.Output.{room_rule, output_rule, output_numbers}
@@ -79,15 +79,15 @@ refusals =
     ∷ []
 
 refusals_agree : map (λ (r : Refusal). result_numbers (read_record one_species r.bytes)) refusals ≡ map (λ (r : Refusal). r.given) refusals
-unfolding result_numbers read_record single only_one site_at record_in ending outer_rule head_rule unless walk_fields field_rule length_permitted tabulate entry_at store value_rule and_then stand_rule entries_rule known_rule species_known lists place_of first_failing between name_byte entry_ranged rising_from shares_of blank_of blank_site site_tag site_kinds
+unfolding result_numbers read_record single only_one site_at record_in ending outer_rule head_rule unless walk_fields field_rule length_permitted tabulate entry_at store value_rule and_then stand_rule composition_rule entries_rule known_rule species_known lists place_of first_failing between name_byte entry_ranged rising_from shares_of blank_of blank_site site_tag site_kinds
 refusals_agree = refl
 
 -- A1 has 78 bytes, and 77 are lent
 short_buffer : (list : List ℕ) → output_numbers (write_rule list a1 77) 78 ≡ (11, 0)
-unfolding output_numbers output_rule room_rule and_then site_rule fields_rule count_rule item_count value_rule stand_rule entries_rule known_rule species_known between name_byte entry_ranged rising_from shares_of encode_as encode_fields field_of value entry_bytes entries_bytes
+unfolding output_numbers output_rule room_rule and_then site_rule fields_rule count_rule item_count value_rule stand_rule composition_rule entries_rule known_rule species_known between name_byte entry_ranged rising_from shares_of encode_as encode_fields field_of value entry_bytes entries_bytes
 short_buffer list = refl
 
 -- a site value whose species the list lacks, ahead of a short buffer
 not_listed_first : output_numbers (write_rule [] a1_54 0) 88 ≡ (16, 0)
-unfolding output_numbers output_rule room_rule and_then site_rule fields_rule count_rule item_count value_rule stand_rule entries_rule known_rule species_known lists place_of first_failing between name_byte entry_ranged rising_from shares_of encode_as encode_fields field_of value entry_bytes entries_bytes
+unfolding output_numbers output_rule room_rule and_then site_rule fields_rule count_rule item_count value_rule stand_rule composition_rule entries_rule known_rule species_known lists place_of first_failing between name_byte entry_ranged rising_from shares_of encode_as encode_fields field_of value entry_bytes entries_bytes
 not_listed_first = refl

@@ -123,7 +123,7 @@ module _ (list : List ℕ) (s : Site) (z : Sized s) (e : site_rule list s ≡ Ok
   stand_stored k is =
       let p = (name_and_stand s.kind passed).1 in
       let few = stand_counts s z p.0 in
-      rw (stand_back k 4 entries (entries_ranged list k s (subst (λ j. value_rule list j 7 s ≡ Ok tt) is p.1)), tabulate_pad 4 4 entries no_entry (omega arith), bytes_long s z p.0 k, (entries_span k s.stand.count few.0 few.1).3)
+      rw (stand_back k 4 entries (entries_ranged list k s (subst (λ j. value_rule list j 7 s ≡ Ok tt) is p.1)), tabulate_pad 4 4 entries no_entry (omega arith), bytes_long s z p.0 k, (entries_span k s.stand.count few).2)
 
   stored_is_clean : (k : RecordKind) → s.kind ≡ k → store_all (site_kind list k) (due k) s (blank_of k) ≡ clean s
   unfolding store_all store value clean blank_of blank_site counted_temperature
