@@ -17,5 +17,7 @@ pub mod BoundsLaw
 pub mod ByCheckLaws
 pub mod FirstBrokenLaws
 pub mod NarrowLaws
+pub mod ReserveLaws
 pub mod ExampleLists
 pub mod ExampleSite
+pub mod ExampleLengths

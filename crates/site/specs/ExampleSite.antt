@@ -1,4 +1,4 @@
--- Site A1 of document 01, "Record, file, listing".
+-- Site A1 of document 01, "Record, file, listing", and the same site as a reserve.
 use Rattle.std.specs.Prelude.{[], ◌∷◌}
 use Rattle.site.specs.declared.Site.{Site}
 use Rattle.site.specs.declared.RecordKind.TheVariants.{Tag52}
@@ -26,3 +26,6 @@ a1 = record {
   nitrogen = 700;
   temperature = 13;
 }
+
+abbrev pub a1_reserve : Site
+a1_reserve = record a1 { stand = record { entries = no_entry ∷ no_entry ∷ no_entry ∷ no_entry ∷ []; count = 0 } }

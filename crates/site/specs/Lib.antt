@@ -8,4 +8,5 @@ pub mod Check
 pub mod Bytes
 pub mod Bounds
 pub mod OneSite
+pub mod Reserve
 pub mod ExampleSite
