@@ -1,6 +1,7 @@
--- The values that document 01 gives for site A1; those of the same site with root depth 51 at 20 °C, and with a stand of which one species stands in a list.
+-- The values that document 01 gives for site A1; those of the same site with root depth 51 at 20 °C, with a stand of which one species stands in a list, and as
+-- a reserve.
 use Rattle.std.specs.Prelude.{ℕ, ◌≡◌, refl, List, [], ◌∷◌}
-use Rattle.site.specs.ExampleSite.{a1}
+use Rattle.site.specs.ExampleSite.{a1, a1_reserve}
 use Rattle.site.specs.declared.Site.{Site}
 use Rattle.site.specs.Bounds.{no_entry}
 use Rattle.site.specs.SpeciesList.{first_failing, place_of}
@@ -53,3 +54,8 @@ terms_at_20 = refl
 terms_of_mixed : shown two_species mixed 693 ≡ 125 ∷ 100 ∷ 258 ∷ 268 ∷ 198 ∷ 692 ∷ 199 ∷ 336 ∷ 40 ∷ 493 ∷ 308 ∷ 855 ∷ 352 ∷ []
 unfolding terms_of up counted_temperature temperature_factor texture_of class_of weathering_of weathering available_weathering species_row content nitrogen_in base_in weight_of stand_sum nitrogen_uptake base_demand base_uptake_of base_uptake base_supply aluminium_limit hydrogen_of al_of greatest_where level_of hydrogen aluminium greatest_level critical_leaching denitrified undenitrified leaching cl_max_s cl_min_n cl_max_n cl_nut_n first_failing place_of
 terms_of_mixed = refl
+
+-- Nu and Bu are 0, so A is 1500 × 400 / 1000; h is 1000, the ceiling, where al is just A
+terms_of_reserve : (list : List ℕ) → shown list a1_reserve 1001 ≡ 125 ∷ 100 ∷ 0 ∷ 0 ∷ 600 ∷ 1000 ∷ 601 ∷ 800 ∷ 40 ∷ 1225 ∷ 50 ∷ 1411 ∷ 94 ∷ []
+unfolding terms_of up counted_temperature temperature_factor texture_of class_of weathering_of weathering available_weathering species_row content nitrogen_in base_in weight_of stand_sum nitrogen_uptake base_demand base_uptake_of base_uptake base_supply aluminium_limit hydrogen_of al_of greatest_where level_of hydrogen aluminium greatest_level critical_leaching denitrified undenitrified leaching cl_max_s cl_min_n cl_max_n cl_nut_n
+terms_of_reserve list = refl

@@ -10,6 +10,7 @@ pub mod SearchLaws
 pub mod LevelAnswers
 pub mod TermLaws
 pub mod SiteTermLaws
+pub mod ReserveLaws
 pub mod LoadBounds
 pub mod OneSiteLaws
 pub mod LimitAnswers

@@ -43,7 +43,7 @@ module _ (list : List ℕ) (s : Site) where
   unfolding base_uptake
   uptake_is = refl
 
-  uptake_min : base_uptake list s ≡ min (base_demand list s) (s.base_deposition + available_weathering s - up s.percolation 10)
+  pub uptake_min : base_uptake list s ≡ min (base_demand list s) (s.base_deposition + available_weathering s - up s.percolation 10)
   unfolding base_uptake base_uptake_of
   uptake_min = refl
 

@@ -9,6 +9,7 @@ pub mod Uptake
 pub mod Supply
 pub mod Nitrogen
 pub mod SiteTerms
+pub mod Reserve
 pub mod Limits
 pub mod Hydrogen
 pub mod Search
