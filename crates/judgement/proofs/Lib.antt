@@ -5,5 +5,6 @@ pub mod Least
 pub mod Demand3
 pub mod Monotone
 pub mod AtSites
+pub mod ReserveLaws
 pub mod JudgementAnswers
 pub mod Cases

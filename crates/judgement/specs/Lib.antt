@@ -1,6 +1,7 @@
 pub mod Regions
 pub mod Verdicts
 pub mod Balance
+pub mod Reserve
 pub mod Less
 pub mod Answers
 pub mod Cases
