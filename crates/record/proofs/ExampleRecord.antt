@@ -1,13 +1,14 @@
--- Record A1 of document 01: 78 bytes, read and written again by the definitions; the same site at 20 °C, the greatest temperature, a record of kind 53; and with a
--- stand of which one species stands in a list, a record of kind 54.
+-- Record A1 of document 01: 78 bytes, read and written again by the definitions; the same site at 20 °C, the greatest temperature, a record of kind 53; with a
+-- stand of which one species stands in a list, a record of kind 54; and as a reserve, in each kind.
 use mathlib.Core.Path.{◌≡◌, refl}
 use mathlib.Core.List.{List, [], ◌∷◌, ◌++◌}
 use Prim.Native.Nat.{ℕ}
 use lib.ListN.{take, drop}
-use Rattle.site.specs.declared.RecordKind.TheVariants.{Tag53, Tag54}
+use Rattle.site.specs.declared.RecordKind.TheVariants.{Tag52, Tag53, Tag54}
+use Rattle.site.specs.declared.RecordKind.{RecordKind}
 use Rattle.site.specs.declared.Site.{Site}
 use Rattle.std.specs.Prelude.{Ok}
-use Rattle.site.specs.ExampleSite.{a1}
+use Rattle.site.specs.ExampleSite.{a1, a1_reserve}
 use Rattle.site.specs.Bytes.{tabulate, entry_at}
 use Rattle.field.specs.Field.{store, entry_bytes, entries_bytes, blank_site, blank_of, value}
 use Rattle.field.specs.Kind.{field_rule}
@@ -98,3 +99,24 @@ a1_54_read = refl
 a1_54_written : encode a1_54 ≡ bytes_a1_54
 unfolding encode_as encode_fields field_of value entry_bytes entries_bytes
 a1_54_written = refl
+
+-- A1 as a reserve: field 07 has no bytes, so the record is four bytes shorter, or with field 10 as long
+abbrev reserve_fields : List ℕ
+reserve_fields = take 27 (drop 3 bytes_a1) ++ 7 ∷ 0 ∷ 0 ∷ drop 37 bytes_a1
+
+abbrev bytes_reserve : RecordKind → List ℕ
+bytes_reserve Tag52 = 82 ∷ 0 ∷ 71 ∷ reserve_fields
+bytes_reserve Tag53 = 83 ∷ 0 ∷ 75 ∷ reserve_fields ++ 16 ∷ 0 ∷ 1 ∷ 13 ∷ []
+bytes_reserve Tag54 = 84 ∷ 0 ∷ 75 ∷ reserve_fields ++ 16 ∷ 0 ∷ 1 ∷ 13 ∷ []
+
+reserve_read : (list : List ℕ) (k : RecordKind) → read_record list (bytes_reserve k) ≡ Ok (record a1_reserve { kind = k })
+unfolding read_record single only_one site_at record_in ending outer_rule head_rule unless walk_fields field_rule length_permitted tabulate entry_at store value_rule and_then stand_rule composition_rule entries_rule known_rule species_known lists place_of first_failing between name_byte entry_ranged rising_from shares_of blank_of blank_site site_tag site_kinds
+reserve_read list Tag52 = refl
+reserve_read list Tag53 = refl
+reserve_read list Tag54 = refl
+
+reserve_written : (k : RecordKind) → encode (record a1_reserve { kind = k }) ≡ bytes_reserve k
+unfolding encode_as encode_fields field_of value entry_bytes entries_bytes
+reserve_written Tag52 = refl
+reserve_written Tag53 = refl
+reserve_written Tag54 = refl

@@ -2,7 +2,7 @@
 use mathlib.Core.Path.{◌≡◌, refl}
 use mathlib.Core.List.{List, [], ◌∷◌, ◌++◌, map}
 use Prim.Native.Nat.{ℕ}
-use lib.ListN.{take, drop}
+use lib.ListN.{take, drop, replicate}
 use Rattle.site.specs.ExampleSite.{a1}
 use Rattle.site.specs.Refusal.{and_then, unless}
 use Rattle.site.specs.SpeciesList.{first_failing, place_of, lists}
@@ -66,6 +66,12 @@ refusals =
     ∷ record { bytes = of_species 3 255 100; given = (16, 30) }  -- 1023
     ∷ record { bytes = of_species 1 2 100; given = (6, 38) }  -- 258 is listed, and none is left where 08 is due
     ∷ record { bytes = 84 ∷ 0 ∷ 81 ∷ take 85 (drop 3 bytes_a1_54); given = (6, 84) }  -- none left where 10 is due
+    -- a stand of no entries, then none left where 08 is due; of entries that are not whole, and of five
+    ∷ record { bytes = 82 ∷ 0 ∷ 30 ∷ to_stand ++ 7 ∷ 0 ∷ 0 ∷ []; given = (6, 33) }
+    ∷ record { bytes = 84 ∷ 0 ∷ 30 ∷ to_stand ++ 7 ∷ 0 ∷ 0 ∷ []; given = (6, 33) }
+    ∷ record { bytes = 82 ∷ 0 ∷ 32 ∷ to_stand ++ 7 ∷ 0 ∷ 2 ∷ 0 ∷ 0 ∷ []; given = (7, 30) }
+    ∷ record { bytes = 82 ∷ 0 ∷ 50 ∷ to_stand ++ 7 ∷ 0 ∷ 20 ∷ replicate 20 0; given = (7, 30) }
+    ∷ record { bytes = 84 ∷ 0 ∷ 55 ∷ to_stand ++ 7 ∷ 0 ∷ 25 ∷ replicate 25 0; given = (7, 30) }
     -- two faults at one place: the first in 01's order
     ∷ record { bytes = 85 ∷ 0 ∷ []; given = (2, 0) }  -- under 3 bytes, then the tag
     ∷ record { bytes = 85 ∷ 255 ∷ 255 ∷ []; given = (3, 0) }  -- the tag, then the length
