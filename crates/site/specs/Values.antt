@@ -14,7 +14,7 @@ use Rattle.site.specs.Kinds.{two_byte_species, entry_width}
 use Rattle.site.specs.SpeciesList.{lists}
 
 -- a field holds from l to n items of w bytes each: the name its bytes, the stand its entries, every other field one value
-abbrev items : ℕ → ℕ → ℕ → Items
+abbrev pub items : ℕ → ℕ → ℕ → Items
 items w l n = record { width = w; least = l; most = n }
 
 abbrev pub one_value : ℕ → Items

@@ -1,6 +1,6 @@
 // Rule 7, for the bytes of a field and for a site value.
 ghost use Rattle.std.specs.Prelude.{◌≡◌};
-ghost use Rattle.site.specs.Values.{one_value, items_of, length_permitted, item_count, count_rule};
+ghost use Rattle.site.specs.Values.{items, one_value, items_of, length_permitted, item_count, count_rule};
 
 use crate::{RecordKind, Rule, Site};
 
@@ -13,14 +13,16 @@ struct Items {
 }
 
 impl Items {
+    fn of(width: usize, least: usize, most: usize) -> Items
+        ensures { result ≡ items width least most }
+    {
+        Items { width, least, most }
+    }
+
     fn one_value(width: usize) -> Items
         ensures { result ≡ one_value width }
     {
-        Items {
-            width,
-            least: 1,
-            most: 1,
-        }
+        Items::of(width, 1, 1)
     }
 }
 
@@ -30,22 +32,14 @@ fn items_of(kind: RecordKind, tag: u8) -> Items
     ensures { result ≡ items_of kind tag }
 {
     match tag {
-        1 => Items {
-            width: 1,
-            least: 1,
-            most: 8,
-        },
+        1 => Items::of(1, 1, 8),
         2 => Items::one_value(1),
         3 => Items::one_value(2),
         4 => Items::one_value(1),
         5 => Items::one_value(1),
         6 => Items::one_value(2),
         // a reserve has no entries
-        7 => Items {
-            width: kind.entry_width(),
-            least: 0,
-            most: 4,
-        },
+        7 => Items::of(kind.entry_width(), 0, 4),
         8 => Items::one_value(2),
         9 => Items::one_value(1),
         10 => Items::one_value(2),
@@ -55,11 +49,7 @@ fn items_of(kind: RecordKind, tag: u8) -> Items
         14 => Items::one_value(2),
         15 => Items::one_value(4),
         16 => Items::one_value(1),
-        _ => Items {
-            width: 1,
-            least: 1,
-            most: 0,
-        },
+        _ => Items::of(1, 1, 0),
     }
 }
 
