@@ -246,7 +246,7 @@ fn refusal(file: &[u8], rule: u64, offset: usize) -> Option<&'static str> {
         return None;
     }
     let (tag, fields, rest) = fault(file, offset);
-    Some(match (tag, fields, rule, rest) {
+    Some(match (tag, fields.len(), rule, rest) {
         (KIND_52, 15, 6, [0x10, 0, 1, 0..=25]) => "6 after 0F, field 10",
         (KIND_53, 15, 5, _) => "53: 5 at field 10",
         (KIND_53, 15, 6, []) => "53: 6 at the end, no 10",
@@ -274,14 +274,18 @@ fn refusal(file: &[u8], rule: u64, offset: usize) -> Option<&'static str> {
     })
 }
 
-/// The record that is refused at an offset within it or at its end: its outer tag, how many fields stand before the
-/// offset, and its bytes from there.
-pub fn fault(file: &[u8], offset: usize) -> (u8, usize, &[u8]) {
+/// The record that is refused at an offset within it or at its end: its outer tag, the fields that stand before the offset,
+/// and its bytes from there.
+pub fn fault(file: &[u8], offset: usize) -> (u8, Vec<&[u8]>, &[u8]) {
     let (start, record) = fields_in(file, 0, offset)
         .last()
         .expect("a record that starts ahead of it");
-    let fields = fields_in(file, start + 3, offset).count();
-    (record[0], fields, &file[offset..start + record.len()])
+    let fields = fields_in(file, start + 3, offset).map(|(_, field)| field);
+    (
+        record[0],
+        fields.collect(),
+        &file[offset..start + record.len()],
+    )
 }
 
 /// How many entries the stand of an accepted record has.

@@ -1,7 +1,7 @@
 //! How often reserves, the sites whose stand has no entries, occurred by each call, beside stands, and in refusals at the fields
 //! around their field 07; and what decides their mark.
 
-use crate::kinds::{end_of, entries_of, fields_in, is_mended, By, KIND_52};
+use crate::kinds::{end_of, entries_of, fault, fields_in, is_mended, By, KIND_52};
 use crate::tally::{Source, SOURCES};
 use compare::lists::ENTRY;
 use forest::{aluminium, hydrogen, judge, terms, Site, Verdict};
@@ -54,21 +54,18 @@ const FAULTS: [&str; 3] = [
     "reserve: 8 by field 10",
 ];
 
-/// Judged reserves; what their mark would be with the stand that lies behind the count; whether their balances close.
-const JUDGED: [&str; 12] = [
+/// Judged reserves, and those that have another mark than with the stand that lies behind their count.
+const JUDGED: [&str; 6] = [
     "reserve on peat",
     "reserve, B + w < Q/10",
-    "reserve, h at the ceiling",
-    "reserve, h below it",
+    "reserve, hydrogen-bound",
+    "reserve, aluminium-bound",
     "within, with stand over",
     "over, with stand within",
-    "balances close, 52",
-    "balances close, 53",
-    "balances close, 54",
-    "balances do not, 52",
-    "balances do not, 53",
-    "balances do not, 54",
 ];
+
+/// Field 07 of a reserve.
+const NO_STAND: [u8; 3] = [0x07, 0, 0];
 
 #[derive(Default)]
 pub struct Reserves {
@@ -78,7 +75,10 @@ pub struct Reserves {
     /// By check, loads, level, judge and sample.
     faults: [[u64; 5]; FAULTS.len()],
     judged: [u64; JUDGED.len()],
-    /// By kind: those whose numbers are those of a stand that does not grow.
+    /// By kind: marks held against balances that close, against balances that do not, and numbers against those of a stand that
+    /// does not grow.
+    closing: [u64; 3],
+    open: [u64; 3],
     without_growth: [u64; 3],
 }
 
@@ -180,9 +180,9 @@ impl Reserves {
         let supply = i64::from(site.base_deposition) + terms.available;
         let least = i64::from(site.percolation) / 10;
         count("reserve, B + w < Q/10", supply < least);
-        let at_ceiling = terms.level == i64::from(site.hydrogen_ceiling);
-        count("reserve, h at the ceiling", at_ceiling);
-        count("reserve, h below it", !at_ceiling);
+        let hydrogen_bound = terms.level == i64::from(site.hydrogen_ceiling);
+        count("reserve, hydrogen-bound", hydrogen_bound);
+        count("reserve, aluminium-bound", !hydrogen_bound);
         if let Some(stand) = lying(site, list) {
             let is_within =
                 |site| judge(site, list).expect("a good site").verdict == Verdict::Within;
@@ -193,15 +193,18 @@ impl Reserves {
     }
 
     /// A reserve whose mark was held against its balances, and whether they close.
-    pub fn balanced(&mut self, site: &Site, closes: bool) {
-        let first = JUDGED.iter().position(|&row| row == "balances close, 52");
-        let row = first.expect("a row") + if closes { 0 } else { 3 };
-        self.judged[row + usize::from(site.kind as u8 - KIND_52)] += 1;
+    pub fn balanced(&mut self, site: &Site, close: bool) {
+        let counts = if close {
+            &mut self.closing
+        } else {
+            &mut self.open
+        };
+        counts[kind_of(site)] += 1;
     }
 
-    /// A reserve that was judged as a stand that does not grow.
+    /// A reserve whose numbers were held against those of a stand that does not grow.
     pub fn without_growth(&mut self, site: &Site) {
-        self.without_growth[usize::from(site.kind as u8 - KIND_52)] += 1;
+        self.without_growth[kind_of(site)] += 1;
     }
 
     /// By source, each with whether it is due.
@@ -227,13 +230,23 @@ impl Reserves {
     }
 
     pub fn judged_rows(&self) -> Vec<(String, u64)> {
-        let kinds = [52, 53, 54].map(|kind| format!("as without growth, {kind}"));
-        let names = JUDGED.map(str::to_string).into_iter();
-        names
-            .zip(self.judged)
-            .chain(kinds.into_iter().zip(self.without_growth))
-            .collect()
+        let names = JUDGED.map(str::to_string);
+        let mut rows: Vec<_> = names.into_iter().zip(self.judged).collect();
+        for (name, counts) in [
+            ("balances close", self.closing),
+            ("balances do not", self.open),
+            ("as without growth", self.without_growth),
+        ] {
+            let kinds = [52, 53, 54].map(|kind| format!("{name}, {kind}"));
+            rows.extend(kinds.into_iter().zip(counts));
+        }
+        rows
     }
+}
+
+/// 0 to 2 for the kinds 52 to 54.
+fn kind_of(site: &Site) -> usize {
+    usize::from(site.kind as u8 - KIND_52)
 }
 
 const fn due(sources: &[Source]) -> BySource<bool> {
@@ -296,15 +309,11 @@ fn refusal(file: &[u8], rule: u64, offset: usize) -> Option<&'static str> {
     if !(5..=8).contains(&rule) {
         return None;
     }
-    let (start, record) = fields_in(file, 0, offset).last()?;
-    let ahead: Vec<(usize, &[u8])> = fields_in(file, start + 3, offset).collect();
-    let rest = &file[offset..start + record.len()];
-    let has_no_stand =
-        |field: Option<&(usize, &[u8])>| field.is_some_and(|(_, field)| *field == [7, 0, 0]);
+    let (_, ahead, rest) = fault(file, offset);
     let is_reserve = match ahead.len() {
         // Field 06 is whole, and what follows it need not be.
-        5 if rule > 6 => rest[end_of(rest, 0)..].starts_with(&[7, 0, 0]),
-        fields => fields > 6 && has_no_stand(ahead.get(6)),
+        5 if rule > 6 => rest[end_of(rest, 0)..].starts_with(&NO_STAND),
+        _ => ahead.get(6) == Some(&&NO_STAND[..]),
     };
     Some(match (ahead.len(), rule, rest) {
         _ if !is_reserve => return None,
@@ -315,7 +324,7 @@ fn refusal(file: &[u8], rule: u64, offset: usize) -> Option<&'static str> {
         (7, 6, _) => "reserve: 6 for field 08",
         (7, 7, _) => "reserve: 7 at field 08",
         (7, 8, _) => "reserve: 8 at field 08",
-        (15, 6, []) if record[0] != KIND_52 => "reserve: 6, no field 10",
+        (15, 6, []) => "reserve: 6, no field 10",
         (15, 8, _) => "reserve: 8 at field 10",
         _ => return None,
     })

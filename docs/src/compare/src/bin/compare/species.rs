@@ -341,7 +341,9 @@ fn stand(with: With, input: &[u8], offset: usize) -> Vec<Entry> {
 fn kind_and_stand(with: With, input: &[u8], offset: usize) -> (Option<Kind>, Vec<Entry>) {
     match with {
         With::File | With::Record | With::Target => match fault(input, offset) {
-            (tag, 6, field) => (kind_of(tag), stand_in(field, tag == KIND_54)),
+            (tag, fields, field) if fields.len() == 6 => {
+                (kind_of(tag), stand_in(field, tag == KIND_54))
+            }
             _ => (None, Vec::new()),
         },
         With::Value | With::Months => {

@@ -35,7 +35,7 @@ impl Verdicts {
             [
                 ("within", self.within),
                 ("over", self.over),
-                ("over by nutrient alone", self.over_by_nutrient_alone),
+                ("nutrient alone", self.over_by_nutrient_alone),
             ]
             .map(|(name, counts)| (name.to_string(), counts)),
         );
