@@ -16,7 +16,7 @@
  *    7  length, or count of entries, not permitted                                     the field
  *    8  value out of range                                                             the field
  *    9  species not rising                                                             the field
- *   10  shares not 100                                                                 the field
+ *   10  shares not 100, where there are entries                                        the field
  *   11  lent buffer shorter than the output                                            0
  *   12  concentration or limit not a number, infinite, negative or above 1000          the month, from 0
  *   13  reading missing                                                                the month, from 0
@@ -36,6 +36,11 @@
  * is one byte (tags hexadecimal). A record of kind 52 has at most 96 bytes, of 53 100, of 54 104. A file is 1 to 500 records,
  * which may be of several kinds. README.md, "A file of records", has the values with their codes, units and ranges.
  *
+ * A stand has one to four entries; more than four, or a part of an entry, are refused by 7. A reserve, which is a site without
+ * harvest, has no entries: in every kind its field 07 is the three bytes 07 00 00 (hexadecimal), and the count of its site
+ * value is 0. It takes up no nitrogen and no base cations, so that its CLminN is the immobilisation. In its stand 8, 9, 10 and
+ * 16 have nothing to look at. Every call takes reserves, and a file may hold them among stands.
+ *
  * Species 0 to 8 are the unit's own in every kind; above 8 kinds 52 and 53 have none. In kind 54 the species 256 to 1023
  * stand in a species list, which is lent with every file, record and site value, right after it; other numbers are refused
  * by 8. A list is entries of ten bytes, their numbers strictly rising, each number of two bytes high byte first:
@@ -51,11 +56,15 @@
  *    0  name, 8 bytes            8  length of the name       9  parent material
  *   10  clay                    11  sand                    12  root depth
  *   13  drainage                14  percolation, 2          16  stand, 4 entries of 4: species, share, yield (2)
- *   32  count of entries        33  immobilisation, 2       35  available share of weathering
+ *   32  count of entries, 0 to 4: 0 is a reserve            33  immobilisation, 2
+ *   35  available share of weathering
  *   36  base cation deposition, 2                           38  critical Bc/Al ratio, 2
  *   40  gibbsite constant, 2    42  hydrogen ceiling, 2     44  acceptable nitrogen in leachate, 2
  *   46  deposition S, 2         48  deposition N, 2         50  temperature, of kinds 53 and 54
  *   51  high bytes of the four species, of kind 54 alone; the low bytes stand at 16, 20, 24 and 28
+ *
+ * Bytes of the name past its length are not looked at, nor are entries past their count: of a reserve all four, whatever they
+ * hold. A count above 4 is refused by 7, as is a length of the name other than 1 to 8.
  *
  * The temperature is the mean in degrees Celsius plus 5, 0 to 25 for -5 to 20 degrees; a site of kind 52 weathers as at 8
  * degrees. Any 50, 51 or 55 bytes are a site value; a bad one is refused by rules 7 to 10 and 16, another length by 7.
@@ -111,8 +120,9 @@ uint64_t forest_rewrite(const uint8_t *record, size_t record_len, const uint8_t 
 
 /* The records of a file, of one kind or of several, all moved to the kind with the outer tag `target`, 52, 53 or 54
  * (hexadecimal). Up from 52 the temperature is 8 degrees Celsius; into 54 a species gains a high byte of zero. A record goes
- * down to 52 only at 8 degrees, and out of 54 only where all its species are below 256; one of the target's kind stays as it
- * is. A record keeps its loads and its mark, and a file of one kind, moved and then moved back, its bytes.
+ * down to 52 only at 8 degrees, and out of 54 only where all its species are below 256; a reserve has none, so that only its
+ * temperature can keep it back. One of the target's kind stays as it is. A record keeps its loads and its mark, and a file of
+ * one kind, moved and then moved back, its bytes.
  * Refused are, in this order: a target other than the three (3, at 0); the list (15); the file, as by forest_list (1 to 10
  * and 16); the first field from the left that cannot go down, 07 ahead of 10 in a record (17); a buffer shorter than the
  * moved file (11). A moved record has at most 104 bytes: a buffer of FOREST_MOST_CONVERTED bytes is always long enough.

@@ -1,6 +1,7 @@
 /*
- * The calls of forest.h as C sees them, on the record A1 of document 01, and on this record in kinds 53 and 54: every answer,
- * every element of the lent buffer, and nothing, by null pointers. The last line is how many passed and failed.
+ * The calls of forest.h as C sees them, on the record A1 of document 01, on this record in kinds 53 and 54, and on A1 as a
+ * reserve: every answer, every element of the lent buffer, and nothing, by null pointers. The last line is how many passed and
+ * failed.
  */
 #include "forest.h"
 
@@ -39,6 +40,11 @@ static const uint8_t as_54[166] = {
     0x54, 0, 80, 1, 0, 2, 'B', '2', FIELDS_02_TO_06, 7, 0, 5, 0, 0, 100, 0x07, 0xD0, FIELDS_08_TO_0E,
     15, 0, 4, 0x00, 0xC8, 0x00, 0xF0, 16, 0, 1, 13,
 };
+/* A1 as a reserve in each kind, at 8 degrees: field 07 has no value. */
+#define RESERVE_TO_0F 1, 0, 2, 'A', '1', FIELDS_02_TO_06, 7, 0, 0, FIELDS_08_TO_0E, 15, 0, 4, 0x01, 0xF4, 0x02, 0xBC
+static const uint8_t reserve_52[74] = {0x52, 0, 71, RESERVE_TO_0F};
+static const uint8_t reserve_53[78] = {0x53, 0, 75, RESERVE_TO_0F, 16, 0, 1, 13};
+static const uint8_t reserve_54[78] = {0x54, 0, 75, RESERVE_TO_0F, 16, 0, 1, 13};
 /* Species 256, 513 and 1023 with their Ca, Mg, K and N: 5389 1980 1660 7782 as pine; 10000 2000 3000 12000; 65535 each. */
 static const uint8_t list[30] = {
     1, 0, 0x15, 0x0D, 0x07, 0xBC, 0x06, 0x7C, 0x1E, 0x66,
@@ -48,9 +54,10 @@ static const uint8_t list[30] = {
 #define LENT list, sizeof list
 #define NONE NULL, 0
 enum { RECORD = 78, RECORD_53 = 82, RECORD_54 = 83, SITE = 50, SITE_53 = 51, SITE_54 = 55, STAND = 30, ENTRY = 10 };
-enum { MONTH = 17, MONTHS = 204, ROOM = 200, SPARE = 0xA5 };
-/* In A1: the species of kind 54, and field 10. */
+enum { MONTH = 17, MONTHS = 204, ROOM = 300, SPARE = 0xA5 };
+/* In A1: the species of kind 54, and field 10. In a reserve: field 08, and field 10. In a site value: the count of entries. */
 enum { SPECIES_54 = STAND + 3, TEMPERATURE_53 = RECORD_53 - 4, TEMPERATURE_54 = RECORD_54 - 4 };
+enum { AFTER_STAND = STAND + 3, TEMPERATURE_OF_RESERVE = sizeof reserve_52, COUNT = 32 };
 
 /* The longest listing and record that documents 01 and 02 let be are within what the header gives; 500 sites are on 9 pages. */
 _Static_assert(FOREST_MOST_TEXT >= 51 + 500 * (8 + 7 * 8 + 7 + 1) && FOREST_MOST_RECORD >= 104, "forest.h: too short");
@@ -93,6 +100,18 @@ static const char overseas_listing[] = "id maxS minN maxN nutN region acidEx nut
 static const char overseas_page[] = "id          maxS    minN    maxN    nutNre acidEx  nutExverdict \n"
                                     "A1           401     290     735     334 2    492    366   over \n"
                                     "B2           735     205    1021     249 0      0      0 within \n";
+
+/* The reserve between A1 and B2. W is 125, w 100, Nu and Bu 0, A 1500 * 400 / 1000, which al(1000) is too, M 200 + 600, L 40;
+ * 1,225,000 / 900 is 1361.1, and 40,000 / 900 is 44.4. 500,000 + 900 * 650 is below 1,225,000, and 700 - 94 is 606. */
+static const char reserve_listing[] = "id maxS minN maxN nutN region acidEx nutEx verdict\n"
+                                      "A1 735 205 1021 249 2 221 451 over\n"
+                                      "A1 1225 50 1411 94 0 0 606 over\n"
+                                      "B2 735 205 1021 249 0 0 0 within\n";
+
+static const char reserve_page[] = "id          maxS    minN    maxN    nutNre acidEx  nutExverdict \n"
+                                   "A1           735     205    1021     249 2    221    451   over \n"
+                                   "A1          1225      50    1411      94 0      0    606   over \n"
+                                   "B2           735     205    1021     249 0      0      0 within \n";
 
 static unsigned passed, failed;
 
@@ -308,6 +327,144 @@ static void convert_calls(void) {
     }
 }
 
+/* A reserve between the two records of a file, of which the first has so many bytes. Returns the bytes of all three. */
+static size_t enter_reserve(uint8_t *to, const uint8_t *two, size_t length, size_t first, const uint8_t *reserve,
+                            size_t reserve_length) {
+    memcpy(to, two, first);
+    memcpy(to + first, reserve, reserve_length);
+    memcpy(to + first + reserve_length, two + first, length - first);
+    return length + reserve_length;
+}
+
+/* Reserves in files and as records, in every kind. */
+static void reserve_file_calls(void) {
+    const size_t length = sizeof reserve_listing - 1, page_length = sizeof reserve_page - 1;
+    static const uint8_t tags[3] = {0x52, 0x53, 0x54}, *const reserves[3] = {reserve_52, reserve_53, reserve_54};
+    static const size_t reserve_lengths[3] = {sizeof reserve_52, sizeof reserve_53, sizeof reserve_54};
+    uint8_t files[3][ROOM];
+    const size_t file_lengths[3] = {
+        enter_reserve(files[0], file, sizeof file, RECORD, reserve_52, sizeof reserve_52),
+        enter_reserve(files[1], as_53, sizeof as_53, RECORD_53, reserve_53, sizeof reserve_53),
+        enter_reserve(files[2], as_54, sizeof as_54, RECORD_54, reserve_54, sizeof reserve_54),
+    };
+    for (size_t i = 0; i < 3; i++) {
+        const uint8_t *among = files[i], *reserve = reserves[i];
+        const size_t among_length = file_lengths[i], reserve_length = reserve_lengths[i];
+        expect_text("a reserve listed", forest_list(among, among_length, LENT, text, length), length, reserve_listing, length);
+        expect_text("a reserve does not fit", forest_list(among, among_length, LENT, text, length - 1), refusal(11, 0), "", 0);
+        expect_text("a reserve on a page", forest_pages(among, among_length, LENT, text, page_length), page_length,
+                    reserve_page, page_length);
+        expect_text("a reserve reported", forest_report(among, among_length, NONE, text, ROOM), length, reserve_listing,
+                    length);
+        expect_text("a reserve again", forest_rewrite(reserve, reserve_length, LENT, text, reserve_length), reserve_length,
+                    reserve, reserve_length);
+        expect_text("a reserve again, an empty list", forest_rewrite(reserve, reserve_length, NONE, text, ROOM),
+                    reserve_length, reserve, reserve_length);
+        expect_text("a reserve and a byte less", forest_rewrite(reserve, reserve_length, LENT, text, reserve_length - 1),
+                    refusal(11, 0), "", 0);
+        expect_text("a reserve, 15", forest_rewrite(reserve, reserve_length, list, sizeof list - 1, text, ROOM),
+                    refusal(15, 2 * ENTRY), "", 0);
+        for (size_t to = 0; to < 3; to++) {
+            expect_moved("a reserve moved", reserve, reserve_length, tags[to], reserves[to], reserve_lengths[to]);
+            expect_moved("a reserve moved between stands", among, among_length, tags[to], files[to], file_lengths[to]);
+        }
+
+        /* A stand of a byte, and of a byte less than an entry; no name; field 08 above 500; nothing after field 07. */
+        uint8_t bad[sizeof reserve_53 + 4];
+        for (size_t more = 1; more < (i < 2 ? 4 : 5); more++) {
+            memcpy(bad, reserve, AFTER_STAND);
+            memset(bad + AFTER_STAND, 0, more);
+            memcpy(bad + AFTER_STAND + more, reserve + AFTER_STAND, reserve_length - AFTER_STAND);
+            bad[2] += more, bad[AFTER_STAND - 1] = more;
+            expect_text("a part of an entry", forest_rewrite(bad, reserve_length + more, LENT, text, ROOM), refusal(7, STAND),
+                        "", 0);
+        }
+        memcpy(bad, reserve, 6);
+        memcpy(bad + 6, reserve + 8, reserve_length - 8);
+        bad[2] -= 2, bad[5] = 0;
+        expect_text("a name of no bytes", forest_rewrite(bad, reserve_length - 2, LENT, text, ROOM), refusal(7, 3), "", 0);
+        memcpy(bad, reserve, reserve_length);
+        bad[AFTER_STAND + 3] = 0x02;
+        expect_text("8 after no stand", forest_rewrite(bad, reserve_length, LENT, text, ROOM), refusal(8, AFTER_STAND), "", 0);
+        bad[STAND - 1] = 0, bad[STAND - 2] = 0;
+        expect_text("8 ahead of no stand", forest_rewrite(bad, reserve_length, LENT, text, ROOM), refusal(8, STAND - 5), "", 0);
+        memcpy(bad, reserve, AFTER_STAND);
+        bad[2] = AFTER_STAND - 3;
+        expect_text("nothing after no stand", forest_rewrite(bad, AFTER_STAND, LENT, text, ROOM), refusal(6, AFTER_STAND), "",
+                    0);
+    }
+
+    /* 17 at field 10 alone: 7 degrees, into kind 52. */
+    for (size_t i = 1; i < 3; i++) {
+        uint8_t cool[2][sizeof reserve_53];
+        memcpy(cool[0], reserve_53, sizeof reserve_53);
+        memcpy(cool[1], reserve_54, sizeof reserve_54);
+        cool[0][TEMPERATURE_OF_RESERVE + 3] = cool[1][TEMPERATURE_OF_RESERVE + 3] = 12;
+        expect_stuck("a reserve at 7 degrees", cool[i - 1], sizeof reserve_53, 0x52, 17, TEMPERATURE_OF_RESERVE);
+        expect_moved("a reserve at 7 degrees to 53", cool[i - 1], sizeof reserve_53, 0x53, cool[0], sizeof reserve_53);
+        expect_moved("a reserve at 7 degrees to 54", cool[i - 1], sizeof reserve_53, 0x54, cool[1], sizeof reserve_54);
+    }
+}
+
+/* Reserves as site values of 50, 51 and 55 bytes, at 8 degrees. The pine of A1 lies behind the count, and in the longest value
+ * high bytes of species 256 and more. */
+static void reserve_value_calls(void) {
+    static const uint64_t judged[10] = {500, 700, 1225, 50, 1411, 94, 0, 0, 606, 1}, searched[2] = {1000, 1};
+    static const size_t lengths[3] = {SITE, SITE_53, SITE_54};
+    uint8_t value[SITE_54] = {0};
+    memcpy(value, site, SITE);
+    value[COUNT] = 0, value[50] = 13, value[51] = 9, value[52] = 1;
+    for (size_t i = 0; i < 3; i++) {
+        const size_t length = lengths[i];
+        expect("a reserve", forest_check(value, length, LENT) == 0);
+        expect("a reserve, an empty list", forest_check(value, length, NONE) == 0);
+        expect_numbers("loads of a reserve", forest_loads(value, length, LENT, numbers, 4), 4, judged + 2, 4);
+        expect_numbers("room for three loads of it", forest_loads(value, length, LENT, numbers, 3), refusal(11, 0), judged, 0);
+        expect_numbers("a level of a reserve", forest_level(value, length, LENT, numbers, 2), 2, searched, 2);
+        expect_numbers("a judgement of a reserve", forest_judge(value, length, LENT, numbers, 8), 8, judged + 2, 8);
+        expect_numbers("a reserve without a list", forest_judge(value, length, NONE, numbers, 11), 8, judged + 2, 8);
+        expect_numbers("a year of a reserve", forest_sample(value, length, LENT, months, MONTHS, numbers, 10), 10, judged, 10);
+        expect("15 of a reserve", forest_check(value, length, list, sizeof list - 1) == refusal(15, 2 * ENTRY));
+
+        /* 1,185,000 + 900 * 44 is 400 below 1000 * 1225; with 1 more of S v is 600, and 1900 * 600 / 1,810,000 up is 1. */
+        static const uint64_t within[8] = {1225, 50, 1411, 94, 0, 0, 0, 0}, over[8] = {1225, 50, 1411, 94, 2, 1, 0, 1};
+        uint8_t other[SITE_54];
+        memcpy(other, value, SITE_54);
+        other[46] = 1185 >> 8, other[47] = 1185 & 0xFF, other[48] = 0, other[49] = 94;
+        expect_numbers("a reserve within", forest_judge(other, length, LENT, numbers, 8), 8, within, 8);
+        other[47]++;
+        expect_numbers("a reserve over", forest_judge(other, length, LENT, numbers, 8), 8, over, 8);
+
+        /* A count above 4, and no name. */
+        other[COUNT] = 5;
+        expect("a count of 5", forest_check(other, length, LENT) == refusal(7, 0));
+        other[COUNT] = 255;
+        expect("a count of 255", forest_check(other, length, LENT) == refusal(7, 0));
+        expect_numbers("loads by a count of 255", forest_loads(other, length, LENT, numbers, 4), refusal(7, 0), judged, 0);
+        expect_numbers("a level by a count of 255", forest_level(other, length, LENT, numbers, 2), refusal(7, 0), judged, 0);
+        expect_numbers("a mark by a count of 255", forest_judge(other, length, LENT, numbers, 8), refusal(7, 0), judged, 0);
+        expect_numbers("a year by a count of 255", forest_sample(other, length, LENT, months, MONTHS, numbers, 10),
+                       refusal(7, 0), judged, 0);
+        other[COUNT] = 0, other[8] = 0;
+        expect("a reserve without a name", forest_check(other, length, LENT) == refusal(7, 0));
+        other[8] = 2, other[34] = 0xFF, other[33] = 1;
+        expect("8 of a reserve", forest_check(other, length, LENT) == refusal(8, 0));
+    }
+
+    /* At -5 degrees W is 67, w 53, A 529, h 959, M 191 + 529; at 20 W is 211, w 168, A 702, and h 1000 again. */
+    static const uint64_t cold[4] = {1087, 50, 1257, 94}, cold_searched[2] = {959, 11}, warm[4] = {1311, 50, 1506, 94};
+    for (size_t i = 1; i < 3; i++) {
+        value[50] = 0;
+        expect_numbers("loads of a reserve at -5", forest_loads(value, lengths[i], LENT, numbers, 4), 4, cold, 4);
+        expect_numbers("a level of it", forest_level(value, lengths[i], LENT, numbers, 2), 2, cold_searched, 2);
+        value[50] = 25;
+        expect_numbers("loads of a reserve at 20", forest_loads(value, lengths[i], LENT, numbers, 4), 4, warm, 4);
+        expect_numbers("a level at 20", forest_level(value, lengths[i], LENT, numbers, 2), 2, searched, 2);
+        value[50] = 26;
+        expect("a reserve at 21", forest_check(value, lengths[i], LENT) == refusal(8, 0));
+    }
+}
+
 int main(void) {
     static const uint64_t sampled[10] = {500, 700, 735, 205, 1021, 249, 2, 221, 451, 1}, *const judged = sampled + 2;
     const size_t length = sizeof listing - 1, page_length = sizeof page - 1;
@@ -435,6 +592,8 @@ int main(void) {
 
     overseas_calls(judged);
     convert_calls();
+    reserve_file_calls();
+    reserve_value_calls();
 
     printf("%u passed, %u failed\n", passed, failed);
     return failed > 0;

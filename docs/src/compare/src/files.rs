@@ -114,7 +114,7 @@ fn records_of(
     list: &[u8],
 ) -> Vec<u8> {
     let mut record = || {
-        let (kind, entries) = (random.pick(kinds), random.between(1, 4) as u8);
+        let (kind, entries) = (random.pick(kinds), sites::entries(random));
         let list = if random.one_in(any_species) {
             list
         } else {
@@ -226,14 +226,14 @@ fn damage_fields(random: &mut Random, fields: &mut Vec<Field>) {
         }
         // Nothing left where a field is due.
         10 => fields.truncate(at),
-        // Stands of no or too many entries, names of no or too many bytes.
+        // Stands of too many entries or of a part of one, names of no or too many bytes.
         _ => {
             let (index, length) = if random.one_in(3) {
                 (0, random.pick(&[0, 9, 100]))
             } else {
                 (
                     6,
-                    random.pick(&[0, 4, 5, 6, 8, 10, 12, 15, 16, 20, 25, 120]),
+                    random.pick(&[1, 3, 4, 5, 6, 8, 10, 12, 15, 16, 20, 25, 120]),
                 )
             };
             if let Some(field) = fields.get_mut(index) {
@@ -379,10 +379,13 @@ pub fn border_files(random: &mut Random, list: &[u8]) -> Vec<Vec<u8>> {
         good_records(random, 501, list),
         longest_records(random, 500, list),
         longest_records(random, 501, list),
+        shortest_records(random, 500),
+        shortest_records(random, 501),
         stuck_53,
         stuck_54,
         [&longest_records(random, 500, list)[..], &[0x52]].concat(),
         [&longest_records(random, 500, list)[..], &[0x54]].concat(),
+        [&shortest_records(random, 500)[..], &[0x52]].concat(),
         [&longest_records(random, 499, list)[..], &long_name].concat(),
         [&longest_records(random, 499, list)[..], &whole].concat(),
         [&longest_records(random, 499, list)[..], &whole[..257]].concat(),
@@ -413,9 +416,19 @@ pub fn page_border_files(random: &mut Random, list: &[u8]) -> Vec<Vec<u8>> {
 
 /// Valid records of 104 bytes each: of kind 54, a name of eight, a stand of four.
 fn longest_records(random: &mut Random, count: usize, list: &[u8]) -> Vec<u8> {
-    let records = std::iter::repeat_with(|| record_of(&sites::good_of(random, Tag54, 4, list)));
+    records_of_length(104, count, || sites::good_of(random, Tag54, 4, list))
+}
+
+/// Valid records of 73 bytes each: of kind 52, a name of one, no stand.
+fn shortest_records(random: &mut Random, count: usize) -> Vec<u8> {
+    records_of_length(73, count, || sites::good_of(random, Tag52, 0, &[]))
+}
+
+/// The first records of so many bytes.
+fn records_of_length(length: usize, count: usize, mut site: impl FnMut() -> Site) -> Vec<u8> {
+    let records = std::iter::repeat_with(|| record_of(&site()));
     records
-        .filter(|record| record.len() == 104)
+        .filter(|record| record.len() == length)
         .take(count)
         .flatten()
         .collect()

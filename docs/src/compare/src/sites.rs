@@ -22,12 +22,21 @@ pub const KINDS: [Kind; 3] = [Kind::Tag52, Kind::Tag53, Kind::Tag54];
 /// bytes, entries, and the temperature of kind 52.
 pub fn good(random: &mut Random, list: &[u8]) -> Site {
     let kind = random.pick(&[KINDS[0], KINDS[1], KINDS[2], KINDS[2]]);
-    let entries = random.between(1, 4) as u8;
+    let entries = entries(random);
     good_of(random, kind, entries, list)
 }
 
-/// As [`good`], of a kind and with a stand of so many entries.
+/// How many entries a stand has; that of a reserve has none.
+pub(crate) fn entries(random: &mut Random) -> u8 {
+    random.between(0, 4) as u8
+}
+
+/// As [`good`], of a kind and with a stand of so many entries. What lies past the count of a reserve is often a stand.
 pub fn good_of(random: &mut Random, kind: Kind, entries: u8, list: &[u8]) -> Site {
+    let lying = match entries {
+        0 => self::entries(random),
+        _ => entries,
+    };
     let name_length = random.between(1, 8) as u8;
     let clay = ranged(random, 0, 100);
     let sand = ranged(random, 0, 100 - clay);
@@ -41,7 +50,7 @@ pub fn good_of(random: &mut Random, kind: Kind, entries: u8, list: &[u8]) -> Sit
         root_depth: ranged(random, 1, 200) as u8,
         drainage: random.below(6) as u8,
         percolation: ranged(random, 1, 3000) as u16,
-        stand: stand(random, kind, entries, list),
+        stand: stand(random, kind, lying, list),
         entries,
         immobilisation: ranged(random, 0, 500) as u16,
         available_share: ranged(random, 70, 85) as u8,
@@ -65,6 +74,17 @@ pub fn good_of(random: &mut Random, kind: Kind, entries: u8, list: &[u8]) -> Sit
 pub fn make_mild(random: &mut Random, site: &mut Site, list: &[u8]) {
     site.temperature = EIGHT_DEGREES;
     set_pair(random, site, list);
+}
+
+/// A site with a stand that does not grow in place of its own.
+pub fn without_growth(random: &mut Random, site: &Site, list: &[u8]) -> Site {
+    let entries = random.between(1, 4) as u8;
+    let stand = stand(random, site.kind, entries, list).map(|entry| Entry { growth: 0, ..entry });
+    Site {
+        stand,
+        entries,
+        ..*site
+    }
 }
 
 fn name(random: &mut Random, length: u8) -> [u8; 8] {
@@ -167,7 +187,8 @@ fn set_pair(random: &mut Random, site: &mut Site, list: &[u8]) {
     site.nitrogen = nitrogen as u16;
 }
 
-/// Takes one value of a site out of its range. Lengths stay as they are; a site with a bad temperature is of kind 53 or 54.
+/// Takes one value of a site out of its range. Lengths stay as they are, but that a reserve gets a stand where a value of an entry
+/// is taken; a site with a bad temperature is of kind 53 or 54.
 pub fn spoil_value(random: &mut Random, site: &mut Site, list: &[u8]) {
     match random.below(24) {
         0 => {
@@ -196,10 +217,10 @@ pub fn spoil_value(random: &mut Random, site: &mut Site, list: &[u8]) {
                 }
                 _ => random.pick(&[9, 10, 255]),
             };
-            entry(random, site).species = species;
+            entry(random, site, list).species = species;
         }
-        7 => entry(random, site).share = random.pick(&[0, 101, 255]),
-        8 => entry(random, site).growth = random.pick(&[20001, 20002, 65535]),
+        7 => entry(random, site, list).share = random.pick(&[0, 101, 255]),
+        8 => entry(random, site, list).growth = random.pick(&[20001, 20002, 65535]),
         9 => site.immobilisation = random.pick(&[501, 502, 65535]),
         10 => site.available_share = random.pick(&[0, 69, 86, 255]),
         11 => site.base_deposition = random.pick(&[5001, 5002, 65535]),
@@ -218,7 +239,11 @@ pub fn spoil_value(random: &mut Random, site: &mut Site, list: &[u8]) {
     }
 }
 
-fn entry<'a>(random: &mut Random, site: &'a mut Site) -> &'a mut Entry {
+fn entry<'a>(random: &mut Random, site: &'a mut Site, list: &[u8]) -> &'a mut Entry {
+    if site.entries == 0 {
+        site.entries = 1;
+        site.stand = stand(random, site.kind, 1, list);
+    }
     let at = random.below(usize::from(site.entries.clamp(1, 4)));
     &mut site.stand[at]
 }
@@ -249,7 +274,7 @@ fn spoil_shares(random: &mut Random, site: &mut Site, list: &[u8]) {
             entry.share = share;
         }
     } else {
-        let entry = entry(random, site);
+        let entry = entry(random, site, list);
         entry.share = entry.share.wrapping_add(random.pick(&[1, 255]));
     }
 }
@@ -266,7 +291,7 @@ pub fn value(random: &mut Random, list: &[u8]) -> Vec<u8> {
         for _ in 0..random.pick(&[1, 1, 1, 2, 4]) {
             match random.below(8) {
                 0 => site.name_length = random.pick(&[0, 9, 10, 255]),
-                1 => site.entries = random.pick(&[0, 5, 6, 255]),
+                1 => site.entries = random.pick(&[5, 6, 255]),
                 _ => spoil_value(random, &mut site, list),
             }
         }

@@ -180,7 +180,7 @@ fn set(site: &mut Site, tag: u8, value: &[u8]) -> Result<(), Rule> {
     Ok(())
 }
 
-/// Enters the entries of a stand, each widened to five bytes.
+/// Enters the entries of a stand, none or up to four, each widened to five bytes.
 #[inline(always)]
 fn set_stand<const N: usize>(
     site: &mut Site,
@@ -190,7 +190,7 @@ fn set_stand<const N: usize>(
     let (entries, []) = value.as_chunks() else {
         return Err(Rule::Length);
     };
-    if !(1..=4).contains(&entries.len()) {
+    if entries.len() > 4 {
         return Err(Rule::Length);
     }
     for (entry, &bytes) in site.stand.iter_mut().zip(entries) {

@@ -62,6 +62,7 @@ pub struct Site {
     pub drainage: u8,
     pub percolation: u16,
     pub stand: [Entry; 4],
+    /// 0 at a reserve, which has no stand.
     pub entries: u8,
     pub immobilisation: u16,
     pub available_share: u8,
@@ -184,7 +185,7 @@ pub(crate) fn check_field(
 
 #[inline(always)]
 fn check_stand(site: &Site) -> Result<(), Rule> {
-    demand(matches!(site.entries, 1..=4), Rule::Length)?;
+    demand(site.entries <= 4, Rule::Length)?;
     let stand = site.stand();
     let in_range = |entry: &Entry| {
         site.kind.has_species(entry.species)
@@ -195,7 +196,7 @@ fn check_stand(site: &Site) -> Result<(), Rule> {
     let rising = |pair: &[Entry]| pair[0].species < pair[1].species;
     demand(stand.windows(2).all(rising), Rule::Species)?;
     let shares: u16 = stand.iter().map(|entry| u16::from(entry.share)).sum();
-    demand(shares == 100, Rule::Shares)
+    demand(stand.is_empty() || shares == 100, Rule::Shares)
 }
 
 #[inline(always)]

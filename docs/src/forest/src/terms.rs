@@ -79,7 +79,7 @@ fn denitrified(site: &Site) -> i64 {
     }
 }
 
-/// Nu and the demand for base cations.
+/// Nu and the demand for base cations, both 0 at a reserve.
 fn uptake(site: &Site, contents: &StandContents) -> (i64, i64) {
     let (mut nitrogen, mut base) = (0, 0);
     for (entry, [ca, mg, k, n]) in site.stand().iter().zip(contents) {

@@ -43,7 +43,8 @@ impl Random {
     }
 }
 
-/// A site of few and small fluxes, so that all choices can be tried, and a species list: of kind 54 with both species in it.
+/// A site of few and small fluxes, so that all choices can be tried, and a species list: of kind 54 with both species in it. One
+/// in three is a reserve, and its two entries are no part of it.
 fn small_site(random: &mut Random) -> (Site, Vec<u8>) {
     let kind = [Kind::Tag52, Kind::Tag53, Kind::Tag54][usize::from(random.number(0, 2))];
     let ((low, middle, high), most_growth) = match kind {
@@ -84,7 +85,7 @@ fn small_site(random: &mut Random) -> (Site, Vec<u8>) {
         drainage: random.number(0, 5) as u8,
         percolation: random.number(1, 600),
         stand,
-        entries: 2,
+        entries: [0, 2, 2][usize::from(random.number(0, 2))],
         immobilisation: random.number(0, 8),
         available_share: random.number(70, 85) as u8,
         base_deposition: random.number(0, 30),
@@ -102,11 +103,16 @@ fn small_site(random: &mut Random) -> (Site, Vec<u8>) {
 #[test]
 fn within_exactly_where_the_balances_close() {
     let mut random = Random(1);
-    let (mut within, mut over) = ([[0; 3]; 2], [[0; 3]; 2]);
+    // By whether the balances close, the site is a reserve, and it is aluminium-bound; then by kind.
+    let mut counts = [[[[0; 3]; 2]; 2]; 2];
     for _ in 0..40_000 {
         let (mut site, list) = small_site(&mut random);
         let terms = terms(&site, &list).unwrap();
         let loads = terms.loads(&site);
+        let is_reserve = site.entries == 0;
+        if is_reserve {
+            assert_eq!((terms.nitrogen_uptake, terms.base_uptake), (0, 0));
+        }
         for _ in 0..4 {
             // Pairs on both sides of the loads.
             site.sulphur = random.number(0, loads.max_s as u16 + 3);
@@ -114,18 +120,14 @@ fn within_exactly_where_the_balances_close() {
             let closes = closes(&site, &terms);
             let is_within = judge(&site, &list).unwrap().verdict == Verdict::Within;
             assert_eq!(is_within, closes, "{site:?}");
-            let aluminium_bound = usize::from(terms.level < site.hydrogen_ceiling.into());
-            let kind = site.kind as usize - 0x52;
-            if closes {
-                within[aluminium_bound][kind] += 1;
-            } else {
-                over[aluminium_bound][kind] += 1;
-            }
+            let is_aluminium_bound = terms.level < site.hydrogen_ceiling.into();
+            let [a, b, c] = [closes, is_reserve, is_aluminium_bound].map(usize::from);
+            counts[a][b][c][site.kind as usize - 0x52] += 1;
         }
     }
-    // Hydrogen-bound and aluminium-bound sites of each kind, all often on either side.
-    let counts = within.into_iter().chain(over).flatten();
-    assert!(counts.min() > Some(2000), "{within:?} {over:?}");
+    // Hydrogen-bound and aluminium-bound sites of each kind, reserves or not, all often on either side.
+    let all = counts.as_flattened().as_flattened().as_flattened();
+    assert!(all.iter().min() > Some(&1000), "{counts:?}");
 }
 
 #[test]

@@ -92,9 +92,9 @@ fn a_bad_site_is_refused_at_0() {
         |site: Site| level(&site, &[]).map_err(|Refusal { rule, offset }| (rule as u8, offset));
     assert_eq!(refused(a1_with_ceiling(0)), Err((8, 0)));
     assert_eq!(refused(a1_with_ceiling(5001)), Err((8, 0)));
-    let no_stand = Site {
-        entries: 0,
+    let five_entries = Site {
+        entries: 5,
         ..a1_with_ceiling(0)
     };
-    assert_eq!(refused(no_stand), Err((7, 0)));
+    assert_eq!(refused(five_entries), Err((7, 0)));
 }

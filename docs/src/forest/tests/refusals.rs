@@ -1,5 +1,5 @@
 //! Each refusal of document 01 with its offset, and those of E5's field 10; every one leaves the buffer as it was. Those of E6
-//! stand in `species.rs`, that of E7 in `convert.rs`.
+//! stand in `species.rs`, that of E7 in `convert.rs`, and what is left of them at a reserve in `reserves.rs`.
 
 mod common;
 
@@ -238,7 +238,6 @@ fn field_lengths() {
     assert_eq!(refused(&a1_with(&["04 0002 0032"])), (7, 17));
     assert_eq!(refused(&a1_with(&["05 0002 0001"])), (7, 21));
     assert_eq!(refused(&a1_with(&["06 0001 C8"])), (7, 25));
-    assert_eq!(refused(&a1_with(&["07 0000"])), (7, 30));
     assert_eq!(refused(&a1_with(&["07 0005 006407D000"])), (7, 30));
     let five = "07 0014 001407D0 011407D0 021407D0 031407D0 041407D0";
     assert_eq!(refused(&a1_with(&[five])), (7, 30));

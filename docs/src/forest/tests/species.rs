@@ -516,8 +516,8 @@ fn sixteen_in_a_site_value() {
 
 #[test]
 fn stands_by_the_length_of_their_entries() {
-    // Four bytes for an entry in kinds 52 and 53, five in kind 54.
-    for length in 0..=30 {
+    // Four bytes for an entry in kinds 52 and 53, five in kind 54. A stand of no entries is a reserve's.
+    for length in 1..=30 {
         let stand = format!("07 {length:04X} {}", "00".repeat(length));
         let record = a1_with_stand(&stand);
         let expected = if [5, 10, 15, 20].contains(&length) {

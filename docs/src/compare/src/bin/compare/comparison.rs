@@ -1,14 +1,15 @@
 //! One answer held against the other.
 
 use crate::kinds::{fields_in, By};
+use crate::reserves::{balances_close, reserve_in};
 use crate::species::With;
 use crate::tally::{Source, Tally, PAGE};
 use compare::interface::{
     Call, CHECK, CONVERT, JUDGE, LEVEL, LIST, LOADS, PAGES, REPORT, REWRITE, SAMPLE,
 };
-use compare::lists;
 use compare::random::Random;
 use compare::sites::KINDS;
+use compare::{lists, sites};
 use forest::{Kind, Site};
 use std::fmt::LowerHex;
 use std::io::Write;
@@ -18,6 +19,10 @@ use std::time::Duration;
 
 /// Longer than any listing, all pages of any file, any file moved to another kind, and any record.
 const ROOM: usize = 64_000;
+/// The bytes of the shortest record, a reserve of kind 52 with a name of one byte.
+const SHORTEST: usize = 73;
+/// One in so many reserves has its balances tried.
+const BALANCED: usize = 32;
 
 pub struct Comparison {
     pub passed: u64,
@@ -46,9 +51,10 @@ impl Comparison {
             .species
             .lent(With::File, file, list, full, with_all);
         self.tally.kinds.records(By::List, file, full);
+        self.tally.reserves.records(By::List, file, full);
         for length in lengths(random, full) {
             let result = self.call(random, &LIST, [file, list], length);
-            self.tally.answer(Source::List, result);
+            self.tally.answer(Source::List, file, list, result);
             // The header alone is longer.
             if length < 51 {
                 let with_all = || (LIST.reference)([file, &self.all], &mut []);
@@ -65,18 +71,19 @@ impl Comparison {
         let one_page = (file.len() > PAGE).then_some(PAGE);
         for length in lengths(random, full).into_iter().chain(one_page) {
             let result = self.call(random, &PAGES, [file, list], length);
-            self.tally.pages(records, length, result);
+            self.tally.pages(file, list, records, length, result);
             if result == full && full >> 32 == 0 {
-                self.tally.page_lines(&room[..full as usize]);
+                self.tally.page_lines(file, &room[..full as usize]);
             }
         }
         let full = (REPORT.reference)([file, list], &mut room);
         for length in lengths(random, full) {
             let result = self.call(random, &REPORT, [file, list], length);
             if result == full {
-                self.tally.printed(Source::Report, &room[..full as usize]);
+                let text = &room[..full as usize];
+                self.tally.printed(Source::Report, file, list, text);
             } else {
-                self.tally.answer(Source::Report, result);
+                self.tally.answer(Source::Report, file, list, result);
             }
         }
         for target in KINDS {
@@ -105,13 +112,13 @@ impl Comparison {
             .species
             .lent(With::Target, file, list, full, with_all);
         self.tally.kinds.records(By::Convert, file, full);
+        self.tally.reserves.records(By::Convert, file, full);
         for length in lengths(random, full) {
             let result = self.call(random, &CONVERT, inputs, length);
-            self.tally.answer(source, result);
+            self.tally.answer(source, file, list, result);
             let converted = &mut self.tally.converted;
             converted.answer(file, target, length, result, full);
-            // No record is shorter.
-            if length < 77 {
+            if length < SHORTEST {
                 let with_all = || in_room(&self.all, 0);
                 self.tally.species.short(With::Target, result, with_all);
             }
@@ -140,7 +147,7 @@ impl Comparison {
             let back = [moved, list, &[kind]];
             let (_, again) = self.outcome(random, &CONVERT, back, file.len());
             self.same("a file moved, and back again", &again, file);
-            self.tally.converted.back_again(kind, target);
+            self.tally.converted.back_again(file, kind, target);
         }
     }
 
@@ -166,10 +173,11 @@ impl Comparison {
             .species
             .lent(With::Record, record, list, full, with_all);
         self.tally.kinds.records(By::Rewrite, record, full);
+        self.tally.reserves.records(By::Rewrite, record, full);
         for length in lengths(random, full) {
             let result = self.call(random, &REWRITE, [record, list], length);
-            self.tally.answer(Source::Rewrite, result);
-            if length < 77 {
+            self.tally.answer(Source::Rewrite, record, list, result);
+            if length < SHORTEST {
                 let with_all = || (REWRITE.reference)([record, &self.all], &mut []);
                 self.tally.species.short(With::Record, result, with_all);
             }
@@ -190,12 +198,15 @@ impl Comparison {
         self.tally.value(Source::Level, value, list, result);
         let mut numbers = [0; 2];
         if (LEVEL.reference)([value, list], &mut numbers) == 2 {
-            self.tally.compared(numbers[1] as usize);
+            self.tally.compared(value, numbers[1] as usize);
         }
 
         let length = random.pick(&[8, 8, 8, 9, 12, 7, 4, 0]);
-        let result = self.call(random, &JUDGE, [value, list], length);
+        let (result, judged) = self.outcome(random, &JUDGE, [value, list], length);
         self.tally.value(Source::Judge, value, list, result);
+        if let (8, Some(reserve)) = (result, reserve_in(value)) {
+            self.reserve(random, &reserve, list, &judged[..8]);
+        }
         if length < 8 {
             let with_all = || (JUDGE.reference)([value, &self.all], &mut []);
             self.tally.species.short(With::Value, result, with_all);
@@ -210,6 +221,24 @@ impl Comparison {
             let site = Site::from_bytes(value).expect("a judged site");
             self.tally.judged(&site, list, &numbers);
         }
+    }
+
+    /// What the library made of a reserve: the mark is that of the balances, and the numbers are those of a stand that does not
+    /// grow.
+    fn reserve(&mut self, random: &mut Random, site: &Site, list: &[u8], judged: &[u64]) {
+        if random.one_in(BALANCED) {
+            let closes = balances_close(site, list);
+            self.same("the mark of a reserve", &judged[7..], &[u64::from(!closes)]);
+            self.tally.reserves.balanced(site, closes);
+        }
+        let stand = sites::bytes(&sites::without_growth(random, site, list));
+        let (_, numbers) = self.outcome(random, &JUDGE, [&stand, list], 8);
+        self.same(
+            "a reserve, and a stand that does not grow",
+            judged,
+            &numbers,
+        );
+        self.tally.reserves.without_growth(site);
     }
 
     /// A site value with a list and the months of its sampler through `forest_sample`.
@@ -289,14 +318,14 @@ impl Comparison {
         (reference, theirs[lent].to_vec())
     }
 
-    /// Bytes of the library that are known.
-    fn same(&mut self, name: &str, bytes: &[u8], expected: &[u8]) {
-        if bytes == expected {
+    /// Bytes or numbers of the library that are known.
+    fn same<T: Element>(&mut self, name: &str, elements: &[T], expected: &[T]) {
+        if elements == expected {
             self.passed += 1;
         } else {
             self.mismatch(|| {
                 println!("{name}");
-                println!("library    {}", hex(bytes));
+                println!("library    {}", hex(elements));
                 println!("expected   {}", hex(expected));
             });
         }
@@ -327,7 +356,7 @@ impl Comparison {
                 println!("reference  {}", hex(expected));
             });
         }
-        self.tally.printed(Source::Program, expected);
+        self.tally.printed(Source::Program, file, &[], expected);
     }
 
     /// What the program printed, and whether it ended by itself.

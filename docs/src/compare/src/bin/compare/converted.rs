@@ -1,6 +1,6 @@
 //! How often records of each kind were moved to each, and each refusal by the fault that stands behind it.
 
-use crate::kinds::{fields_in, files_row, stand_in, FILES, KIND_52, KIND_53, KIND_54};
+use crate::kinds::{entries_of, fields_in, files_row, stand_in, FILES, KIND_52, KIND_53, KIND_54};
 use forest::EIGHT_DEGREES;
 
 /// By target: 52, 53 and 54.
@@ -12,12 +12,13 @@ const DOWN: ByTarget<bool> = [true, true, false];
 const TO_52: ByTarget<bool> = [true, false, false];
 
 /// Records and files moved, and files that can be.
-const MOVED: [(&str, ByTarget<bool>); 14] = [
+const MOVED: [(&str, ByTarget<bool>); 16] = [
     ("kind 52", ALL),
     ("kind 53", ALL),
     ("kind 54", ALL),
     ("not at 8 °C", [false, true, true]),
     ("of a listed species", [false, false, true]),
+    ("reserve, not at 8 °C", [false, true, true]),
     ("500 records", ALL),
     ("in the exact room", ALL),
     ("with room to spare", ALL),
@@ -27,11 +28,12 @@ const MOVED: [(&str, ByTarget<bool>); 14] = [
     ("52 there and back", ALL),
     ("53 there and back", ALL),
     ("54 there and back", ALL),
+    ("reserve, and back", ALL),
 ];
 
 /// 17, by its record and field, and by what stands behind it; then other faults of the file behind a field that 17 would be
 /// given for, which is in another record, in the same one, or the one at fault.
-const REFUSED: [(&str, ByTarget<bool>); 20] = [
+const REFUSED: [(&str, ByTarget<bool>); 23] = [
     ("17: 53, field 10", TO_52),
     ("17: 54, field 07", DOWN),
     ("17: 54, field 10", TO_52),
@@ -39,6 +41,9 @@ const REFUSED: [(&str, ByTarget<bool>); 20] = [
     ("17: 10, then a 07", TO_52),
     ("17: a later record", DOWN),
     ("17: the 500th record", DOWN),
+    ("17: 53, a reserve", TO_52),
+    ("17: 54, a reserve", TO_52),
+    ("17: after a reserve", DOWN),
     ("17 ahead of 11", DOWN),
     ("2 ahead of 17", DOWN),
     ("3 ahead of 17", DOWN),
@@ -71,11 +76,12 @@ pub struct Converted {
 impl Converted {
     /// A file that was moved.
     pub fn moved(&mut self, file: &[u8], target: u8) {
-        let (mut kinds, mut not_mild, mut listed) = ([0; 3], 0, 0);
+        let (mut kinds, mut not_mild, mut listed, mut reserves) = ([0; 3], 0, 0, 0);
         for (start, record) in fields_in(file, 0, file.len()) {
             kinds[column(record[0])] += 1;
             for (_, field) in fields_in(file, start + 3, start + record.len()) {
                 not_mild += u64::from(is_not_mild(field));
+                reserves += u64::from(is_not_mild(field) && entries_of(record) == 0);
                 listed += u64::from(is_listed(record[0], field));
             }
         }
@@ -84,6 +90,7 @@ impl Converted {
         self.add("kind 54", target, kinds[2]);
         self.add("not at 8 °C", target, not_mild);
         self.add("of a listed species", target, listed);
+        self.add("reserve, not at 8 °C", target, reserves);
         let is_full = kinds.iter().sum::<u64>() == 500;
         self.add("500 records", target, is_full.into());
         if let Some(row) = files_row(file) {
@@ -97,7 +104,9 @@ impl Converted {
     }
 
     /// A file of one kind that was moved, and back again.
-    pub fn back_again(&mut self, kind: u8, target: u8) {
+    pub fn back_again(&mut self, file: &[u8], kind: u8, target: u8) {
+        let reserves = fields_in(file, 0, file.len()).filter(|(_, record)| entries_of(record) == 0);
+        self.add("reserve, and back", target, reserves.count() as u64);
         let name = match kind {
             KIND_52 => "52 there and back",
             KIND_53 => "53 there and back",
@@ -142,6 +151,13 @@ impl Converted {
         add("17: 10, then a 07", first.tag == 0x10 && a_07);
         add("17: a later record", first.record > 0);
         add("17: the 500th record", first.record == 499);
+        let entries: Vec<usize> = fields_in(file, 0, offset)
+            .map(|(_, record)| entries_of(record))
+            .collect();
+        let (own, before) = entries.split_last().expect("a record ahead of it");
+        add("17: 53, a reserve", *own == 0 && first.kind == KIND_53);
+        add("17: 54, a reserve", *own == 0 && first.kind == KIND_54);
+        add("17: after a reserve", before.contains(&0));
     }
 
     /// A refusal by a fault of the file at an offset.
@@ -250,11 +266,8 @@ fn is_listed(kind: u8, field: &[u8]) -> bool {
 
 /// The length of a file whose records are moved, whether they can be or not.
 fn moved_length(file: &[u8], target: u8) -> usize {
-    let length = |(start, record): (usize, &[u8])| {
-        let (_, stand) = fields_in(file, start + 3, start + record.len())
-            .nth(6)
-            .expect("field 07");
-        let entries = stand_in(stand, record[0] == KIND_54).len();
+    let length = |(_, record): (usize, &[u8])| {
+        let entries = entries_of(record);
         let bytes =
             |kind: u8| 4 * usize::from(kind != KIND_52) + entries * usize::from(kind == KIND_54);
         record.len() - bytes(record[0]) + bytes(target)

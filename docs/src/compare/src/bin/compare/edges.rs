@@ -29,6 +29,15 @@ B2 735 205 1021 249 0 0 0 within
 A1 735 205 1021 249 2 221 451 over
 ";
 
+/// A1 with four species, and as a reserve: of kind 52, of kind 53 at 5 °C below zero, where W is 67 and M 720, and of kind 54.
+const LISTING_OF_RESERVES: &str = "id maxS minN maxN nutN region acidEx nutEx verdict
+A1 149 557 722 601 3 494 99 over
+A1 1225 50 1411 94 0 0 606 over
+B2 735 205 1021 249 0 0 0 within
+A1 1087 50 1257 94 0 0 606 over
+A1 1225 50 1411 94 0 0 606 over
+";
+
 fn bytes(hex: &str) -> Vec<u8> {
     let digits: Vec<u32> = hex.chars().filter_map(|c| c.to_digit(16)).collect();
     digits.chunks(2).map(|c| (c[0] * 16 + c[1]) as u8).collect()
@@ -51,6 +60,14 @@ fn record_54(species: &str) -> Vec<u8> {
     let site = SITE.replace("070004 00", &format!("070005 {species}"));
     bytes(&format!(
         "540050 010002 4131 {site} 0F0004 01F402BC 100001 0D"
+    ))
+}
+
+/// A1 with another field 07 in a kind, by its outer tag and length, and what follows field 0F.
+fn with_stand(outer: &str, stand: &str, last: &str) -> Vec<u8> {
+    let site = SITE.replace("070004 006407D0", stand);
+    bytes(&format!(
+        "{outer} 010002 4131 {site} 0F0004 01F402BC {last}"
     ))
 }
 
@@ -90,6 +107,21 @@ pub fn compare(comparison: &mut Comparison, path: &str) {
         "all kinds, byte by byte",
         drip(path, &all_kinds, 1),
         LISTING_OF_ALL_KINDS,
+    );
+    let four = "070010 00190000 01190001 05190100 08194E20";
+    let reserves = [
+        with_stand("520057", four, ""),
+        with_stand("520047", "070000", ""),
+        b2.clone(),
+        with_stand("53004B", "070000", "100001 00"),
+        with_stand("54004B", "070000", "100001 0D"),
+    ]
+    .concat();
+    assert_eq!(reserves.len(), 90 + 74 + 78 + 78 + 78);
+    expect(
+        "reserves, byte by byte",
+        drip(path, &reserves, 1),
+        LISTING_OF_RESERVES,
     );
     // The program lends an empty list.
     let lacking = [&pine[..], &overseas].concat();

@@ -17,7 +17,7 @@ pub enum By {
 }
 
 /// Refusals of records. Field 10 is that of kinds 53 and 54; after 0F it stands in a record of kind 52.
-const REFUSALS: [&str; 24] = [
+const REFUSALS: [&str; 26] = [
     "3 at tag 51",
     "3 at tag 55",
     "3 at another tag",
@@ -40,12 +40,14 @@ const REFUSALS: [&str; 24] = [
     "52: 7, five entries",
     "53: 7, five entries",
     "54: 7, five entries",
-    "54: 7, empty stand",
+    "52: 7, another length",
+    "53: 7, another length",
     "54: 7, another length",
+    "7, name of no bytes",
 ];
 
 /// Answers to site values.
-const VALUES: [&str; 10] = [
+const VALUES: [&str; 13] = [
     "50 bytes",
     "51 bytes",
     "55 bytes",
@@ -54,6 +56,9 @@ const VALUES: [&str; 10] = [
     "7 for 54 bytes",
     "7 for 56 bytes",
     "7 for another length",
+    "7 by a name of no bytes",
+    "7 by a count of 5",
+    "7 by a count of 255",
     "53: 8 by temperature",
     "54: 8 by temperature",
 ];
@@ -139,14 +144,19 @@ impl Kinds {
             (0, 50) => 0,
             (0, 51) => 1,
             (0, 55) => 2,
-            (7, 50 | 51 | 55) => return,
             (7, 49) => 3,
             (7, 52) => 4,
             (7, 54) => 5,
             (7, 56) => 6,
+            (7, 50 | 51 | 55) => match (value[8], value[32]) {
+                (0, _) => 8,
+                (1..=8, 5) => 9,
+                (1..=8, 255) => 10,
+                _ => return,
+            },
             (7, _) => 7,
-            (8, 51) if too_hot_alone(value, list) => 8,
-            (8, 55) if too_hot_alone(value, list) => 9,
+            (8, 51) if too_hot_alone(value, list) => 11,
+            (8, 55) if too_hot_alone(value, list) => 12,
             _ => return,
         };
         self.values[row][call] += 1;
@@ -193,7 +203,7 @@ impl Kinds {
 }
 
 /// Where the field that starts here, outer or inner, ends.
-fn end_of(bytes: &[u8], at: usize) -> usize {
+pub fn end_of(bytes: &[u8], at: usize) -> usize {
     at + 3 + usize::from(u16::from_be_bytes([bytes[at + 1], bytes[at + 2]]))
 }
 
@@ -236,7 +246,7 @@ fn refusal(file: &[u8], rule: u64, offset: usize) -> Option<&'static str> {
         return None;
     }
     let (tag, fields, rest) = fault(file, offset);
-    Some(match (tag, fields, rule, rest) {
+    Some(match (tag, fields.len(), rule, rest) {
         (KIND_52, 15, 6, [0x10, 0, 1, 0..=25]) => "6 after 0F, field 10",
         (KIND_53, 15, 5, _) => "53: 5 at field 10",
         (KIND_53, 15, 6, []) => "53: 6 at the end, no 10",
@@ -256,20 +266,32 @@ fn refusal(file: &[u8], rule: u64, offset: usize) -> Option<&'static str> {
         (KIND_52, 6, 7, [_, 0, 20, ..]) => "52: 7, five entries",
         (KIND_53, 6, 7, [_, 0, 20, ..]) => "53: 7, five entries",
         (KIND_54, 6, 7, [_, 0, 25, ..]) => "54: 7, five entries",
-        (KIND_54, 6, 7, [_, 0, 0, ..]) => "54: 7, empty stand",
+        (KIND_52, 6, 7, _) => "52: 7, another length",
+        (KIND_53, 6, 7, _) => "53: 7, another length",
         (KIND_54, 6, 7, _) => "54: 7, another length",
+        (_, 0, 7, [_, 0, 0, ..]) => "7, name of no bytes",
         _ => return None,
     })
 }
 
-/// The record that is refused at an offset within it or at its end: its outer tag, how many fields stand before the
-/// offset, and its bytes from there.
-pub fn fault(file: &[u8], offset: usize) -> (u8, usize, &[u8]) {
+/// The record that is refused at an offset within it or at its end: its outer tag, the fields that stand before the offset,
+/// and its bytes from there.
+pub fn fault(file: &[u8], offset: usize) -> (u8, Vec<&[u8]>, &[u8]) {
     let (start, record) = fields_in(file, 0, offset)
         .last()
         .expect("a record that starts ahead of it");
-    let fields = fields_in(file, start + 3, offset).count();
-    (record[0], fields, &file[offset..start + record.len()])
+    let fields = fields_in(file, start + 3, offset).map(|(_, field)| field);
+    (
+        record[0],
+        fields.collect(),
+        &file[offset..start + record.len()],
+    )
+}
+
+/// How many entries the stand of an accepted record has.
+pub fn entries_of(record: &[u8]) -> usize {
+    let (_, stand) = fields_in(record, 3, record.len()).nth(6).expect("field 07");
+    stand_in(stand, record[0] == KIND_54).len()
 }
 
 /// The entries of a field 07, with one byte for a species or with two.
@@ -291,12 +313,17 @@ pub fn stand_in(field: &[u8], two: bool) -> Vec<Entry> {
 
 /// Whether the temperature of a site value of 51 or 55 bytes is its only fault.
 fn too_hot_alone(value: &[u8], list: &[u8]) -> bool {
-    let mut mild = value.to_vec();
-    mild[50] = EIGHT_DEGREES;
+    is_mended(value, list, 50, &[EIGHT_DEGREES])
+}
+
+/// Whether a site value of a length that is permitted is refused, and passes with these bytes at a place.
+pub fn is_mended(value: &[u8], list: &[u8], at: usize, bytes: &[u8]) -> bool {
+    let mut mended = value.to_vec();
+    mended[at..at + bytes.len()].copy_from_slice(bytes);
     let passes = |value: &[u8]| {
         Site::from_bytes(value)
             .and_then(|site| forest::check(&site, list))
             .is_ok()
     };
-    !passes(value) && passes(&mild)
+    !passes(value) && passes(&mended)
 }

@@ -5,9 +5,11 @@ mod converted;
 mod edges;
 mod kinds;
 mod lent;
+mod reserves;
 mod sampled;
 mod species;
 mod tally;
+mod verdicts;
 
 use compare::random::Random;
 use compare::{files, lists, months, sites};

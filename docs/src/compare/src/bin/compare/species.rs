@@ -66,7 +66,7 @@ const BEHIND_16: ByInput<&[u64]> = [
 ];
 const AHEAD_OF_16: ByInput<&[u64]> = [&[8, 9, 10]; WITH.len()];
 
-/// Judged sites of kind 54 by their species and contents.
+/// Judged stands of kind 54 by their species and contents.
 const JUDGED: [&str; 20] = [
     "species 256",
     "species 1023",
@@ -171,7 +171,7 @@ impl Species {
 
     /// A site that was judged with a list.
     pub fn judged(&mut self, site: &Site, list: &[u8]) {
-        if site.kind != Kind::Tag54 {
+        if site.kind != Kind::Tag54 || site.entries == 0 {
             return;
         }
         let stand = &site.stand[..usize::from(site.entries)];
@@ -281,7 +281,7 @@ impl Species {
         rows
     }
 
-    /// Judged sites of kind 54.
+    /// Judged stands of kind 54.
     pub fn judged_rows(&self) -> Vec<(String, u64)> {
         let names = JUDGED.map(str::to_string);
         names.into_iter().zip(self.judged).collect()
@@ -341,7 +341,9 @@ fn stand(with: With, input: &[u8], offset: usize) -> Vec<Entry> {
 fn kind_and_stand(with: With, input: &[u8], offset: usize) -> (Option<Kind>, Vec<Entry>) {
     match with {
         With::File | With::Record | With::Target => match fault(input, offset) {
-            (tag, 6, field) => (kind_of(tag), stand_in(field, tag == KIND_54)),
+            (tag, fields, field) if fields.len() == 6 => {
+                (kind_of(tag), stand_in(field, tag == KIND_54))
+            }
             _ => (None, Vec::new()),
         },
         With::Value | With::Months => {

@@ -2,8 +2,10 @@
 
 use crate::converted::Converted;
 use crate::kinds::Kinds;
+use crate::reserves::{reserve_in, reserves_in, Reserves};
 use crate::sampled::Sampled;
 use crate::species::Species;
+use crate::verdicts::{Verdicts, JUDGE, LINES, PAGE_LINES, SAMPLE};
 use compare::files::PAGE_BORDERS;
 use forest::{terms, Kind, Site, Terms};
 use std::ops::RangeInclusive;
@@ -37,7 +39,7 @@ impl Source {
 }
 
 /// The sources, and the rules that each can refuse by.
-const SOURCES: [(&str, [RangeInclusive<usize>; 2]); 13] = [
+pub const SOURCES: [(&str, [RangeInclusive<usize>; 2]); 13] = [
     ("list", [1..=11, 15..=16]),
     ("pages", [1..=11, 15..=16]),
     ("report", [1..=11, 15..=16]),
@@ -66,11 +68,6 @@ const SPECIES: [&str; 9] = [
     "other deciduous",
 ];
 
-const JUDGE: usize = 0;
-const LINES: usize = 1;
-const PAGE_LINES: usize = 2;
-const SAMPLE: usize = 3;
-
 /// How many levels can be compared. No ceiling below 33 is ever forbidden, since al(32) is 0 at every site; from 33 on the
 /// search takes 6 levels or more.
 const COMPARED: [usize; 10] = [1, 6, 7, 8, 9, 10, 11, 12, 13, 14];
@@ -84,11 +81,8 @@ const PAGE_RECORDS: usize = 59 * 104;
 pub struct Tally {
     /// By source, then by rule; 0 stands for success.
     answers: [[u64; 18]; SOURCES.len()],
-    /// By judge, by lines of listings, by lines of pages and by sample, as the next three.
-    regions: [[u64; 5]; 4],
-    within: [u64; 4],
-    over: [u64; 4],
-    over_by_nutrient_alone: [u64; 4],
+    verdicts: Verdicts,
+    verdicts_of_reserves: Verdicts,
     /// Successes for files of so many records, and for files of more than a page.
     page_borders: [u64; PAGE_BORDERS.len()],
     page_breaks: u64,
@@ -104,46 +98,53 @@ pub struct Tally {
     table: [u64; 9],
     hydrogen_bound: u64,
     aluminium_bound: u64,
-    /// By how many levels were compared.
-    compared: [u64; 15],
+    /// By how many levels were compared, at all sites and at reserves.
+    compared: [[u64; 15]; 2],
     sampled: Sampled,
     pub kinds: Kinds,
     pub species: Species,
     pub converted: Converted,
+    pub reserves: Reserves,
 }
 
 impl Tally {
-    pub fn answer(&mut self, source: Source, result: u64) {
-        self.answers[source as usize][(result >> 32) as usize] += 1;
+    /// The answer to a file or a record with its list.
+    pub fn answer(&mut self, source: Source, file: &[u8], list: &[u8], result: u64) {
+        let rule = (result >> 32) as usize;
+        self.answers[source as usize][rule] += 1;
+        self.reserves.file(source, file, list, rule);
     }
 
     /// The answer of one of the calls from check to sample to a site value with its list.
     pub fn value(&mut self, source: Source, value: &[u8], list: &[u8], result: u64) {
-        self.answer(source, result);
+        let rule = (result >> 32) as usize;
+        self.answers[source as usize][rule] += 1;
+        self.reserves.value(source, value, list, rule);
         let call = source as usize - Source::Check as usize;
         self.kinds.value(call, value, list, result);
     }
 
-    /// What is to be printed for a file: a listing or the line of a refusal.
-    pub fn printed(&mut self, source: Source, text: &[u8]) {
+    /// What is to be printed for a file with its list: a listing or the line of a refusal.
+    pub fn printed(&mut self, source: Source, file: &[u8], list: &[u8], text: &[u8]) {
         let text = std::str::from_utf8(text).expect("ASCII");
-        let answers = &mut self.answers[source as usize];
         if let Some(refused) = text.strip_prefix("refused ") {
             let (rule, _) = refused.split_once(' ').expect("a rule and its offset");
-            answers[rule.parse::<usize>().expect("a number")] += 1;
+            let rule: u64 = rule.parse().expect("a number");
+            self.answer(source, file, list, rule << 32);
             return;
         }
-        answers[0] += 1;
-        for line in text.lines().skip(1) {
+        self.answer(source, file, list, 0);
+        for (line, is_reserve) in text.lines().skip(1).zip(reserves_in(file)) {
             let words: Vec<&str> = line.split(' ').collect();
             let region = words[5].parse().expect("a region");
-            self.verdict(LINES, region, words[8] == "over");
+            self.verdict(LINES, is_reserve, region, words[8] == "over");
         }
     }
 
-    /// The result of `forest_pages` in a buffer of so many bytes, for a file of so many records, 0 where it is refused.
-    pub fn pages(&mut self, records: usize, room: usize, result: u64) {
-        self.answer(Source::Pages, result);
+    /// The result of `forest_pages` for a file with its list in a buffer of so many bytes. The file has so many records, 0 where it
+    /// is refused.
+    pub fn pages(&mut self, file: &[u8], list: &[u8], records: usize, room: usize, result: u64) {
+        self.answer(Source::Pages, file, list, result);
         let (rule, offset) = (result >> 32, result as u32 as usize);
         if rule == 0 {
             for (count, border) in self.page_borders.iter_mut().zip(PAGE_BORDERS) {
@@ -156,30 +157,27 @@ impl Tally {
         }
     }
 
-    /// The lines of pages, but for the header of each.
-    pub fn page_lines(&mut self, text: &[u8]) {
-        for page in text.chunks(PAGE) {
-            for line in page.chunks(65).skip(1) {
-                let region = usize::from(line[41] - b'0');
-                self.verdict(PAGE_LINES, region, line[59..63] == *b"over");
-            }
+    /// The lines of a file's pages, but for the header of each.
+    pub fn page_lines(&mut self, file: &[u8], text: &[u8]) {
+        let lines = text.chunks(PAGE).flat_map(|page| page.chunks(65).skip(1));
+        for (line, is_reserve) in lines.zip(reserves_in(file)) {
+            let region = usize::from(line[41] - b'0');
+            self.verdict(PAGE_LINES, is_reserve, region, line[59..63] == *b"over");
         }
     }
 
-    fn verdict(&mut self, by: usize, region: usize, over: bool) {
-        self.regions[by][region] += 1;
-        if over {
-            self.over[by] += 1;
-            self.over_by_nutrient_alone[by] += u64::from(region == 0);
-        } else {
-            self.within[by] += 1;
+    fn verdict(&mut self, by: usize, is_reserve: bool, region: usize, over: bool) {
+        self.verdicts.count(by, region, over);
+        if is_reserve {
+            self.verdicts_of_reserves.count(by, region, over);
         }
     }
 
     /// A site that was judged with a list, with the numbers of `forest_judge`.
     pub fn judged(&mut self, site: &Site, list: &[u8], numbers: &[u64]) {
         let terms = terms(site, list).expect("a judged site");
-        self.verdict(JUDGE, numbers[4] as usize, numbers[7] == 1);
+        let is_reserve = site.entries == 0;
+        self.verdict(JUDGE, is_reserve, numbers[4] as usize, numbers[7] == 1);
         self.parent_materials[usize::from(site.parent_material)] += 1;
         self.drainages[usize::from(site.drainage)] += 1;
         if site.parent_material == 0 {
@@ -200,11 +198,15 @@ impl Tally {
         }
         self.kinds.judged(site, list);
         self.species.judged(site, list);
+        if is_reserve {
+            self.reserves.judged(site, list);
+        }
     }
 
-    /// A site at which so many levels were compared.
-    pub fn compared(&mut self, levels: usize) {
-        self.compared[levels] += 1;
+    /// A site value at which so many levels were compared.
+    pub fn compared(&mut self, value: &[u8], levels: usize) {
+        self.compared[0][levels] += 1;
+        self.compared[1][levels] += u64::from(reserve_in(value).is_some());
     }
 
     /// A site value with its list and its sampler's months: the result in a buffer with room, and the numbers there.
@@ -217,7 +219,8 @@ impl Tally {
         numbers: &[u64; 10],
     ) {
         if result == 10 {
-            self.verdict(SAMPLE, numbers[6] as usize, numbers[9] == 1);
+            let is_reserve = reserve_in(value).is_some();
+            self.verdict(SAMPLE, is_reserve, numbers[6] as usize, numbers[9] == 1);
         }
         if let (Ok(()), Ok(site)) = (forest::check_list(list), Site::from_bytes(value)) {
             self.sampled.count(&site, list, months, result, numbers);
@@ -245,14 +248,9 @@ impl Tally {
         }
 
         let named = |name: &str| name.to_string();
-        let by_region = |region| self.regions.map(|counts| counts[region]);
-        let regions = (0..5).map(|region| (format!("region {region}"), by_region(region)));
-        let marks = [
-            (named("within"), self.within),
-            (named("over"), self.over),
-            (named("over by nutrient alone"), self.over_by_nutrient_alone),
-        ];
-        let rows = regions.chain(marks).collect();
+        let mut rows = self.verdicts.rows();
+        let of_reserves = self.verdicts_of_reserves.rows().into_iter();
+        rows.extend(of_reserves.map(|(name, counts)| (format!("reserve, {name}"), counts)));
         absent += table(["judge", "lines", "pages", "sample"], rows);
 
         let mut kinds: Vec<(String, u64)> = Vec::new();
@@ -271,15 +269,23 @@ impl Tally {
         kinds.push((named("aluminium-bound"), self.aluminium_bound));
         kinds.extend(self.kinds.judged_rows());
         kinds.extend(self.species.judged_rows());
+        kinds.extend(self.reserves.judged_rows());
         absent += column("judge", kinds);
+
+        let names = SOURCES.map(|(name, _)| name);
+        absent += table_of_due(names, self.reserves.answer_rows(with_program));
 
         let calls = ["rewrite", "list", "convert", "judge"];
         absent += table(calls, self.kinds.accepted_rows());
         absent += column("list", self.kinds.files());
         let calls = ["rewrite", "list", "convert"];
-        absent += table(calls, self.kinds.refusal_rows());
+        let mut refusals = self.kinds.refusal_rows();
+        refusals.extend(self.reserves.record_rows());
+        absent += table(calls, refusals);
         let calls = ["check", "loads", "level", "judge", "sample"];
-        absent += table(calls, self.kinds.value_rows());
+        let mut values = self.kinds.value_rows();
+        values.extend(self.reserves.fault_rows());
+        absent += table(calls, values);
 
         absent += table(Species::WITH, self.species.rows());
         absent += table_of_due(Species::WITH, self.species.orders());
@@ -287,9 +293,12 @@ impl Tally {
         absent += table_of_due(["to 52", "to 53", "to 54"], self.converted.rows());
         absent += column("convert", self.converted.other_rows());
 
-        let compared =
-            COMPARED.map(|levels| (format!("compared: {levels}"), self.compared[levels]));
-        absent += column("level", compared.to_vec());
+        let [compared, at_reserves] = self.compared;
+        let mut rows = COMPARED
+            .map(|k| (format!("compared: {k}"), compared[k]))
+            .to_vec();
+        rows.extend(COMPARED.map(|k| (format!("reserve, compared: {k}"), at_reserves[k])));
+        absent += column("level", rows);
 
         let borders = PAGE_BORDERS.map(|count| format!("records: {count}"));
         let mut kinds: Vec<(String, u64)> = borders.into_iter().zip(self.page_borders).collect();
