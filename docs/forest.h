@@ -36,10 +36,10 @@
  * is one byte (tags hexadecimal). A record of kind 52 has at most 96 bytes, of 53 100, of 54 104. A file is 1 to 500 records,
  * which may be of several kinds. README.md, "A file of records", has the values with their codes, units and ranges.
  *
- * A stand has one to four entries; more than four, or a part of an entry, are refused by 7. A reserve, which is a site without
- * harvest, has no entries: in every kind its field 07 is the three bytes 07 00 00 (hexadecimal), and the count of its site
- * value is 0. It takes up no nitrogen and no base cations, so that its CLminN is the immobilisation. In its stand 8, 9, 10 and
- * 16 have nothing to look at. Every call takes reserves, and a file may hold them among stands.
+ * A stand has at most four entries; more, or a part of an entry, are refused by 7. The stand of a reserve, a site without
+ * harvest, has none: in every kind its field 07 is the three bytes 07 00 00 (hexadecimal), and the count of its site value is
+ * 0. A reserve takes up no nitrogen and no base cations, so its CLminN is the immobilisation. Rules 8 and 16 find no entry in
+ * its stand, 9 and 10 don't apply. Every call takes reserves, and a file may hold them among other records.
  *
  * Species 0 to 8 are the unit's own in every kind; above 8 kinds 52 and 53 have none. In kind 54 the species 256 to 1023
  * stand in a species list, which is lent with every file, record and site value, right after it; other numbers are refused

@@ -6,3 +6,4 @@ pub mod SiteValueLaws
 pub mod SampleCallLaws
 pub mod RewriteLaws
 pub mod ExampleLent
+pub mod ExampleValues

@@ -20,7 +20,7 @@ use Rattle.site.specs.declared.RecordKind.{RecordKind}
 use Rattle.site.specs.declared.RecordKind.TheVariants.{Tag52, Tag53, Tag54}
 use Rattle.site.specs.Kinds.{due, entry_width}
 use Rattle.site.specs.Values.{one_value, items_of, length_permitted, item_count, count_rule, value_rule, ranged, between}
-use Rattle.site.proofs.LengthLaws.{permitted_parts, parts_permitted, parts_counted, one_item}
+use Rattle.site.proofs.LengthLaws.{permitted_parts, parts_permitted, parts_counted, one_value_length}
 use Rattle.numbers.specs.TwoBytes.{AllBytes}
 use Rattle.field.specs.Clean.{Sized}
 use Rattle.field.proofs.All.{All, none, ◌▸◌}
@@ -125,7 +125,7 @@ module _ (list : List ℕ) (k : RecordKind) where
 
   -- by the table of lengths: one value of w bytes
   one-length : (t w : ℕ) → items_of k t ≡ one_value w → length_permitted k t w ≡ true → OneLength K t w
-  one-length t w one ok = (λ n p. one_item k t n w one p, ok)
+  one-length t w one ok = (λ n p. one_value_length k t n w one p, ok)
 
   -- a field of many items
   many_part : (t : ℕ) → Kept K t

@@ -8,7 +8,7 @@ use Rattle.site.specs.declared.Site.{Site}
 use Rattle.site.specs.Reserve.{Reserve}
 use Rattle.loads.specs.Uptake.{nitrogen_in, base_in, stand_sum, nitrogen_uptake, base_demand, base_uptake}
 use Rattle.loads.specs.SiteTerms.{terms_of}
-use Rattle.loads.specs.Reserve.{NoUptake}
+use Rattle.loads.specs.Reserve.{ReservesTakeUpNothing}
 use Rattle.loads.proofs.UptakeLaws.{sum_none}
 use Rattle.loads.proofs.SiteTermLaws.{demand_is, uptake_min, supply_is, limit_is}
 
@@ -26,11 +26,11 @@ module _ (list : List ℕ) (s : Site) (r : Reserve s) where
   no_bases : base_uptake list s ≡ 0
   no_bases = omega (arith, uptake_min list s, no_demand)
 
-  pub no_uptake : NoUptake list s
-  no_uptake = record {
-    nitrogen = no_nitrogen;
-    demand = no_demand;
-    bases = no_bases;
-    supply = omega (arith, supply_is list s, no_bases);
-    limit = rw (limit_is list s, no_bases, sub-zero);
-  }
+pub no_uptake : ReservesTakeUpNothing
+no_uptake list s r = record {
+  nitrogen = no_nitrogen list s r;
+  demand = no_demand list s r;
+  bases = no_bases list s r;
+  supply = omega (arith, supply_is list s, no_bases list s r);
+  limit = rw (limit_is list s, no_bases list s r, sub-zero);
+}

@@ -1,6 +1,6 @@
 -- A site that passes the check is within the bounds that the calculation leans on.
 use mathlib.Core.Path.{◌≡◌, refl}
-use mathlib.Core.Logic.{⊎_elim}
+use mathlib.Core.Logic.{◌⊎◌, inl, inr, ⊎_elim}
 use mathlib.Core.Bool.{true, ◌&&◌}
 use mathlib.Core.List.{List, [], ◌∷◌}
 use Prim.Native.Nat.{ℕ, ◌≤◌, ◌<◌}
@@ -61,20 +61,22 @@ stand_bounds list k s c v =
       each = each_bounds k s.stand.entries n (pass_then (list_all (entry_ranged k) es) OutOfRange _ (both_passed (entries_rule k es) (known_rule list es) v).0).0;
     }
 
--- the shares add up to 100, or there are none
-mixed_shares : (es : List Entry) → composition_rule es ≡ Ok tt → shares_of es ≤ share_sum
-unfolding composition_rule shares_of
-mixed_shares [] p = omega arith
-mixed_shares (e ∷ es) p =
+-- there are no entries, or their shares add up to 100
+pub whole_shares : (es : List Entry) → composition_rule es ≡ Ok tt → (es ≡ []) ⊎ (shares_of es ≡ share_sum)
+unfolding composition_rule
+whole_shares [] p = inl refl
+whole_shares (e ∷ es) p =
     let whole = (pass_then (rising_from 0 (e ∷ es)) NotRising _ p).1 in
-    let sum : shares_of (e ∷ es) ≡ share_sum = eqb-true _ _ (pass_then (eqb (shares_of (e ∷ es)) share_sum) SharesNotWhole (Ok tt) whole).0 in
-    omega arith
+    inr (eqb-true _ _ (pass_then (eqb (shares_of (e ∷ es)) share_sum) SharesNotWhole (Ok tt) whole).0)
 
 share_bound : (list : List ℕ) (k : RecordKind) (s : Site) → value_rule list k 7 s ≡ Ok tt → shares_of (take s.stand.count s.stand.entries) ≤ share_sum
-unfolding value_rule stand_rule entries_rule
+unfolding value_rule stand_rule entries_rule shares_of
 share_bound list k s v =
     let es = take s.stand.count s.stand.entries in
-    mixed_shares es (pass_then (list_all (entry_ranged k) es) OutOfRange _ (both_passed (entries_rule k es) (known_rule list es) v).0).1
+    ⊎_elim
+    (λ (none : es ≡ []). rw none (omega arith))
+    (λ (whole : shares_of es ≡ share_sum). omega arith)
+    (whole_shares es (pass_then (list_all (entry_ranged k) es) OutOfRange _ (both_passed (entries_rule k es) (known_rule list es) v).0).1)
 
 module _ (list : List ℕ) (s : Site) (e : site_rule list s ≡ Ok tt) where
   value_at_lem : (t : ℕ) → 1 ≤ t → t ≤ 15 → value_rule list s.kind t s ≡ Ok tt

@@ -1,4 +1,5 @@
 -- The lengths, up to 25, that rule 7 permits for the fields 00 to 11, by kind: document 01's column "Bytes", a stand of no entries (document 02, E8), and no field 00 or 11.
+-- Field 10 is due in kinds 53 and 54 alone, so of kind 52 nobody asks for its length.
 use Rattle.std.specs.Prelude.{ℕ, ◌≡◌, refl, List, [], ◌∷◌, map}
 use Rattle.std.specs.List.{filter}
 use Rattle.site.specs.declared.RecordKind.{RecordKind}

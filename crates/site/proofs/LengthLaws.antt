@@ -71,8 +71,8 @@ module _ (k : RecordKind) (t n : ℕ) where
       (leb-true (w * l) n (and_l some fits both), leb-true n (w * m) (and_r some fits both), eqb-true (n % w) 0 (and_r (some && fits) whole e))
 
 -- a field of one value has that value's length
-pub one_item : (k : RecordKind) (t n w : ℕ) → items_of k t ≡ one_value w → length_permitted k t n ≡ true → n ≡ w
-one_item k t n w one e = let p = rw one at (permitted_parts k t n e) in omega (arith, p.0, p.1)
+pub one_value_length : (k : RecordKind) (t n w : ℕ) → items_of k t ≡ one_value w → length_permitted k t n ≡ true → n ≡ w
+one_value_length k t n w one e = let p = rw one at (permitted_parts k t n e) in omega (arith, p.0, p.1)
 
 -- what a permitted count of items says
 pub count_parts : (t : ℕ) (s : Site) → count_rule t s ≡ Ok tt → ((items_of s.kind t).least ≤ item_count t s) × (item_count t s ≤ (items_of s.kind t).most)

@@ -1,5 +1,4 @@
--- What the calculation leans on at a site that passes the check: upper bounds of its values and of the sum of its shares, which are none at a reserve, and the
--- least ratio.
+-- What the calculation leans on at a site that passes the check: upper bounds of its values and of the sum of its shares (0 at a reserve), and the least ratio.
 use Rattle.std.specs.Prelude.{ℕ, ◌≤◌, ◌<◌, List, get_or, take}
 use Rattle.site.specs.declared.Site.{Site}
 use Rattle.site.specs.declared.Entry.{Entry}

@@ -20,6 +20,7 @@ items w l n = record { width = w; least = l; most = n }
 abbrev pub one_value : ℕ → Items
 one_value w = items w 1 1
 
+-- no such field, not even one of no bytes
 abbrev pub no_items : Items
 no_items = items 1 1 0
 

@@ -13,6 +13,7 @@ struct Items {
 }
 
 impl Items {
+    // Items of `width` bytes each, from `least` to `most` of them.
     fn of(width: usize, least: usize, most: usize) -> Items
         ensures { result ≡ items width least most }
     {
@@ -49,6 +50,7 @@ fn items_of(kind: RecordKind, tag: u8) -> Items
         14 => Items::one_value(2),
         15 => Items::one_value(4),
         16 => Items::one_value(1),
+        // no such field, not even one of no bytes
         _ => Items::of(1, 1, 0),
     }
 }

@@ -41,7 +41,7 @@ pub struct Name {
     pub len: u8,
 }
 
-// The first `count` of the entries: the others are no part of the stand. No vector, as with the name.
+// The first `count` of the entries: the others are no part of the stand. A reserve has none. No vector, as with the name.
 #[derive(Clone, Copy, Default)]
 pub struct Stand {
     pub entries: [Entry; 4],

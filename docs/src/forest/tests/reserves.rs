@@ -399,7 +399,7 @@ fn any_good_list_goes_with_a_reserve() {
 
 /// Stands of four entries, reserves and stands of one, in all kinds, with the line of each in the listing.
 fn mixed() -> (Vec<u8>, String) {
-    // N: 25 × (1 × 8710 + 256 × 12137 + 20,000 × 9995) / 10,000,000 is 507.6; bases: 25 × (10,486 + 256 × 9558 +
+    // N: 25 × (1 × 8710 + 256 × 12137 + 20,000 × 9995) / 10,000,000 is 507.5; bases: 25 × (10,486 + 256 × 9558 +
     // 20,000 × 14,283) / 10,000,000 is 720.3, beside 380: A 30, h 372, M 74 + 30. CLmaxS is 300 + 125 − 380 + 104. n = 143,
     // v = 500,000 + 900 × 143 − 149,000, and 900 × v is above n × D: 143 + 500 − 149.
     let four = "A1 149 557 722 601 3 494 99 over\n";
