@@ -6,12 +6,12 @@ use native.Mathlib.Nat.{mod-eq_of_lt}
 use Rattle.std.specs.Prelude.{Ok, Err}
 use Rattle.site.specs.Refusal.{rule_number}
 use Rattle.site.specs.declared.Rule.{Rule}
-use Rattle.site.specs.declared.Rule.TheVariants.{NoBytes, OuterCut, OuterTag, TooMany, InnerCut, InnerTag, BadLength, OutOfRange, NotRising, SharesNotWhole, BufferShort, BadConcentration, NoReading, PairTooLarge, BadList, NotListed, NotConvertible}
+use Rattle.site.specs.declared.Rule.TheVariants.{NoBytes, OuterCut, OuterTag, TooMany, InnerCut, InnerTag, BadLength, OutOfRange, NotRising, SharesNotWhole, BufferShort, BadConcentration, NoReading, PairTooLarge, BadList, NotListed, NotConvertible, LoadBelowZero}
 use Rattle.output.specs.Output.{Written}
 use Rattle.exports.specs.Codes.{code_base, written_code, Decodes, Small}
 
--- the rules' numbers are 1 to 17
-pub number_range : (r : Rule) → (1 ≤ rule_number r) × (rule_number r ≤ 17)
+-- the rules' numbers are 1 to 21
+pub number_range : (r : Rule) → (1 ≤ rule_number r) × (rule_number r ≤ 21)
 number_range NoBytes = (omega arith, omega arith)
 number_range OuterCut = (omega arith, omega arith)
 number_range OuterTag = (omega arith, omega arith)
@@ -29,6 +29,7 @@ number_range PairTooLarge = (omega arith, omega arith)
 number_range BadList = (omega arith, omega arith)
 number_range NotListed = (omega arith, omega arith)
 number_range NotConvertible = (omega arith, omega arith)
+number_range LoadBelowZero = (omega arith, omega arith)
 
 -- a number below 2³² is a count
 pub count_below : (l : Written) {r : ℕ} → r ≡ written_code l → r < code_base → l ≡ Ok r

@@ -2,7 +2,8 @@
 -- A name of no bytes and five entries are 7.
 use Rattle.std.specs.Prelude.{ℕ, List, ◌≡◌, refl, Ok, Err, Result, [], ◌∷◌, ◌++◌}
 use Rattle.site.specs.Refusal.{and_then, unless}
-use Rattle.site.specs.Check.{fields_rule, site_rule}
+use Rattle.site.specs.Check.{fields_rule, due_rule}
+use Rattle.loads.specs.Check.{site_rule}
 use Rattle.site.specs.Kinds.{counted_temperature}
 use Rattle.site.specs.Bytes.{tabulate}
 use Rattle.site.specs.SpeciesList.{least_at, good_entry, first_failing, first_bad, list_rule, list_fault}
@@ -18,7 +19,8 @@ use Rattle.loads.specs.Hydrogen.{hydrogen_of, al_of, greatest_where, level_of, h
 use Rattle.loads.specs.Supply.{base_supply, aluminium_limit}
 use Rattle.loads.specs.Nitrogen.{denitrified, undenitrified, leaching}
 use Rattle.loads.specs.SiteTerms.{terms_of}
-use Rattle.loads.specs.CriticalLoads.{cl_max_s, cl_min_n, cl_max_n, cl_nut_n, loads_of, load_numbers}
+use Rattle.loads.specs.MaxS.{cl_max_s}
+use Rattle.loads.specs.CriticalLoads.{cl_min_n, cl_max_n, cl_nut_n, loads_of, load_numbers}
 use Rattle.judgement.specs.Regions.{excess, region_of, acid_in, acid_of}
 use Rattle.judgement.specs.Verdicts.{region, acid_exceedance, nutrient_exceedance, verdict_of, verdict, verdict_numbers}
 use Rattle.exports.specs.Lent.{lent}

@@ -7,7 +7,7 @@ use lib.ListN.{length, get_or, take}
 use borrow.Author.Tests.{eq-eqb, ne_eqb}
 use Rattle.std.specs.Prelude.{Result, Ok, Err}
 use Rattle.site.specs.Bytes.{tabulate}
-use Rattle.site.specs.Check.{site_rule}
+use Rattle.loads.specs.Check.{site_rule}
 use Rattle.site.specs.Refusal.{Checked, unless}
 use Rattle.site.proofs.ByCheckLaws.{unless_ok}
 use Rattle.site.specs.declared.Refusal.{Refusal}

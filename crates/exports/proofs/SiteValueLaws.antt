@@ -7,7 +7,7 @@ use lib.ListN.{length, drop, get_or}
 use borrow.Author.Tests.{ne_eqb}
 use Rattle.std.specs.Prelude.{Result, Ok, Err}
 use Rattle.site.specs.Refusal.{and_then, Checked, unless}
-use Rattle.site.specs.Check.{site_rule}
+use Rattle.loads.specs.Check.{site_rule}
 use Rattle.site.specs.declared.Refusal.{Refusal}
 use Rattle.site.specs.declared.Rule.TheVariants.{BadLength}
 use Rattle.site.specs.declared.RecordKind.TheVariants.{Tag52, Tag53, Tag54}

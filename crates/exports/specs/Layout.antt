@@ -4,7 +4,7 @@
 use Rattle.std.specs.Prelude.{ℕ, ◌+◌, ◌*◌, ◌||◌, List, [], ◌∷◌, ◌++◌, eqb, get_or, length, Result, Ok, Err}
 use Rattle.site.specs.Choice.{pick}
 use Rattle.site.specs.Refusal.{and_then, Checked, unless}
-use Rattle.site.specs.Check.{site_rule}
+use Rattle.loads.specs.Check.{site_rule}
 use Rattle.numbers.specs.TwoBytes.{word_of, word_at}
 use Rattle.site.specs.Bytes.{tabulate, name_in, narrow_entry}
 use Rattle.site.specs.declared.RecordKind.{RecordKind}

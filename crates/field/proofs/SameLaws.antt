@@ -7,11 +7,11 @@ use lib.ListN.{length, take, replicate}
 use lib.Seq.{take_at, take-take, length-take-le}
 use Rattle.site.specs.declared.Site.{Site}
 use Rattle.site.specs.declared.RecordKind.{RecordKind}
-use Rattle.site.specs.declared.RecordKind.TheVariants.{Tag52, Tag53, Tag54}
-use Rattle.site.specs.Kinds.{counted_temperature}
+use Rattle.site.specs.declared.RecordKind.TheVariants.{Tag52, Tag53, Tag54, Tag55}
+use Rattle.site.specs.Kinds.{counted_temperature, counted_dioxide}
 use Rattle.std.specs.Prelude.{Ok}
 use Rattle.site.specs.Bounds.{no_entry}
-use Rattle.site.specs.Check.{site_rule}
+use Rattle.site.specs.Check.{due_rule}
 use Rattle.site.specs.Values.{item_count}
 use Rattle.site.proofs.FieldLaws.{site_passed}
 use Rattle.site.proofs.LengthLaws.{count_parts}
@@ -26,8 +26,17 @@ unfolding counted_temperature clean
 counted s Tag52 e = rw e
 counted s Tag53 e = rw e
 counted s Tag54 e = rw e
+counted s Tag55 e = rw e
 
-pub clean_same : (list : List ℕ) (s : Site) → Sized s → site_rule list s ≡ Ok tt → SameSite s (clean s)
+-- and the same carbon dioxide
+lost : (s : Site) (k : RecordKind) → s.kind ≡ k → counted_dioxide s ≡ counted_dioxide (clean s)
+unfolding counted_dioxide clean
+lost s Tag52 e = rw e
+lost s Tag53 e = rw e
+lost s Tag54 e = rw e
+lost s Tag55 e = rw e
+
+pub clean_same : (list : List ℕ) (s : Site) → Sized s → due_rule list s ≡ Ok tt → SameSite s (clean s)
 unfolding clean item_count
 clean_same list s z e = record {
   kind = refl;
@@ -50,6 +59,7 @@ clean_same list s z e = record {
     ceiling = refl;
     leachate = refl;
     temperature = counted s s.kind refl;
+    dioxide = lost s s.kind refl;
   };
   sulphur = refl;
   nitrogen = refl;

@@ -15,9 +15,9 @@ use Rattle.site.specs.Choice.{pick}
 use Rattle.site.specs.Bytes.{tabulate, entry_at}
 use Rattle.field.specs.Field.{store, entries_bytes, value, site_kind}
 use Rattle.field.specs.Kind.{Kind, field_rule}
-use Rattle.site.specs.Ranges.{parent_range, depth_range, drainage_range, percolation_range, immobilisation_range, available_range, base_deposition_range, ratio_range, gibbsite_range, ceiling_range, leachate_range, temperature_range}
+use Rattle.site.specs.Ranges.{parent_range, depth_range, drainage_range, percolation_range, immobilisation_range, available_range, base_deposition_range, ratio_range, gibbsite_range, ceiling_range, leachate_range, temperature_range, dioxide_range}
 use Rattle.site.specs.declared.RecordKind.{RecordKind}
-use Rattle.site.specs.declared.RecordKind.TheVariants.{Tag52, Tag53, Tag54}
+use Rattle.site.specs.declared.RecordKind.TheVariants.{Tag52, Tag53, Tag54, Tag55}
 use Rattle.site.specs.Kinds.{due, entry_width}
 use Rattle.site.specs.Values.{one_value, items_of, length_permitted, item_count, count_rule, value_rule, ranged, between}
 use Rattle.site.proofs.LengthLaws.{permitted_parts, parts_permitted, parts_counted, one_value_length}
@@ -204,7 +204,13 @@ module _ (list : List ℕ) (k : RecordKind) where
   temperature_tag =
       one_tag 16 (byte_item K 16 (λ s. s.temperature) (between temperature_range) (one-length 16 1 refl refl) (λ s v. (refl, refl, refl)) (λ u v x h. rw (ne_eqb u 16 h))) (λ s. (refl, tt))
 
+  dioxide_tag : TagLaws 17
+  unfolding value value_rule store count_rule item_count Tidy length_permitted
+  dioxide_tag =
+      one_tag 17 (word_item K 17 (λ s. s.dioxide) (between dioxide_range) (one-length 17 2 refl refl) (λ s v. (refl, refl, refl)) (λ u v x h. rw (ne_eqb u 17 h))) (λ s. (refl, tt))
+
 pub tags : (list : List ℕ) (k : RecordKind) → All (TagLaws list k) (due k)
 tags list Tag52 = with_first_fifteen list Tag52 [] none
 tags list Tag53 = with_first_fifteen list Tag53 (16 ∷ []) (temperature_tag list Tag53 ▸ none)
 tags list Tag54 = with_first_fifteen list Tag54 (16 ∷ []) (temperature_tag list Tag54 ▸ none)
+tags list Tag55 = with_first_fifteen list Tag55 (16 ∷ 17 ∷ []) (temperature_tag list Tag55 ▸ dioxide_tag list Tag55 ▸ none)

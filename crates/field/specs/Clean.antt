@@ -1,16 +1,17 @@
 -- What reading and writing keep of a site.
 use Rattle.std.specs.Prelude.{◌≡◌, ◌++◌, take, length, replicate}
 use Rattle.site.specs.declared.Site.{Site}
-use Rattle.site.specs.Kinds.{counted_temperature}
+use Rattle.site.specs.Kinds.{counted_temperature, counted_dioxide}
 use Rattle.site.specs.Bounds.{no_entry}
 use Rattle.site.specs.OneSite.{OneSite}
 
--- the site with zeros past its name's length and its entries' count, and with the temperature that counts
+-- the site with zeros past its name's length and its entries' count, and with the temperature and the carbon dioxide that count
 unfoldable pub clean : Site → Site
 clean s = record s {
   name = record { bytes = take 8 (take s.name.len s.name.bytes ++ replicate 8 0); len = s.name.len };
   stand = record { entries = take 4 (take s.stand.count s.stand.entries ++ replicate 4 no_entry); count = s.stand.count };
   temperature = counted_temperature s;
+  dioxide = counted_dioxide s;
 }
 
 -- s and t are the same site: all values are equal, name and stand up to their lengths, and of the temperature the one that counts; what stands past them, or

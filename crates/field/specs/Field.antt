@@ -34,6 +34,7 @@ store k t v s = record {
   sulphur = pick (eqb t 15) (word_at v 0) s.sulphur;
   nitrogen = pick (eqb t 15) (word_at v 2) s.nitrogen;
   temperature = pick (eqb t 16) (get_or v 0 0) s.temperature;
+  dioxide = pick (eqb t 17) (word_at v 0) s.dioxide;
 }
 
 -- the bytes of a species number: both, or the low one alone, which is the number itself in every site of kinds 52 and 53 that passes; and of entries
@@ -47,7 +48,7 @@ unfoldable pub entries_bytes : RecordKind → List Entry → List ℕ
 entries_bytes k [] = []
 entries_bytes k (e ∷ es) = entry_bytes k e ++ entries_bytes k es
 
--- the site that reading a record of kind 52 starts from; the temperature is that of 8 °C
+-- the site that reading a record of kind 52 starts from; the temperature is that of 8 °C, and there is no soil carbon dioxide
 unfoldable pub blank_site : Site
 blank_site = record {
   kind = Tag52;
@@ -69,6 +70,7 @@ blank_site = record {
   sulphur = 0;
   nitrogen = 0;
   temperature = reference_temperature;
+  dioxide = 0;
 }
 
 -- and of every kind
@@ -95,6 +97,7 @@ values k s =
     ∷ word_bytes s.leachate  -- 0E
     ∷ (word_bytes s.sulphur ++ word_bytes s.nitrogen)  -- 0F
     ∷ (s.temperature ∷ [])  -- 10
+    ∷ word_bytes s.dioxide  -- 11
     ∷ []
 
 -- the bytes of the value with tag t; another tag has none

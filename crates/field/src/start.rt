@@ -39,5 +39,6 @@ pub fn blank(kind: RecordKind) -> Site
         sulphur: 0,
         nitrogen: 0,
         temperature: REFERENCE_TEMPERATURE,
+        dioxide: 0,
     }
 }

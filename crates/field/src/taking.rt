@@ -51,6 +51,7 @@ fn store(site: &mut Site, tag: u8, value: &[u8])
             site.nitrogen = word_at(value, 2);
         }
         16 => site.temperature = byte(value, 0),
+        17 => site.dioxide = word_at(value, 0),
         // no other tag has a permitted length
         _ => {}
     }

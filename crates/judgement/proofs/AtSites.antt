@@ -1,27 +1,29 @@
 -- Demand 3 and its consequences at a site that passes the check: the laws on terms, at the site's terms.
 use Prim.Native.Nat.{ℕ, ◌≤◌}
-use mathlib.Core.Path.{◌≡◌, refl}
+use mathlib.Core.Path.{◌≡◌, refl, sym, ◌∙◌}
 use mathlib.Core.Logic.{◌↔◌}
 use mathlib.Core.List.{List}
-use Rattle.site.specs.Check.{site_rule}
+use Rattle.loads.specs.Check.{site_rule}
 use Rattle.site.specs.declared.Site.{Site}
 use Rattle.std.specs.Prelude.{Ok}
-use Rattle.site.proofs.BoundsLaw.{bounds}
+use Rattle.site.proofs.BoundsLaw as Fields
+use Rattle.loads.proofs.CheckLaws.{bounds, passed_load, fields_then}
 use Rattle.loads.specs.Terms.{TermBounds}
 use Rattle.loads.specs.SiteTerms.{terms_of}
-use Rattle.loads.specs.CriticalLoads.{cl_max_s, cl_min_n, loads_of}
+use Rattle.loads.specs.MaxS.{load_rule, cl_max_s}
+use Rattle.loads.specs.CriticalLoads.{cl_min_n, loads_of}
 use Rattle.site.specs.OneSite.{OneSite}
 use Rattle.loads.specs.MostTerms.{most_max_s}
 use Rattle.loads.proofs.SiteTermLaws.{term_bounds}
-use Rattle.loads.proofs.TermLaws.{cl_max_s-le}
+use Rattle.loads.proofs.TermLaws.{cl_max_s_le}
 use Rattle.loads.proofs.OneSiteLaws.{terms_same}
 use Rattle.judgement.specs.declared.Region.TheVariants.{AcidKept}
 use Rattle.judgement.specs.declared.Verdict.TheVariants.{Within}
 use Rattle.judgement.specs.Verdicts.{region, acid_exceedance, nutrient_exceedance, verdict, verdict_word, within, over}
-use Rattle.judgement.specs.Balance.{Closes, Tells}
+use Rattle.judgement.specs.Balance.{Closes, NoneCloses, Tells}
 use Rattle.judgement.specs.Less.{Stays, NeverWorse}
 use Rattle.judgement.proofs.Exceeding.{zero_iff}
-use Rattle.judgement.proofs.Demand3.{within_iff_closes, verdict_tells}
+use Rattle.judgement.proofs.Demand3.{no_pair_closes, within_iff_closes, verdict_tells}
 use Rattle.judgement.proofs.Monotone.{within_less, acid_less, nutrient_less}
 
 module _ (list : List ℕ) (s : Site) (passed : site_rule list s ≡ Ok tt) where
@@ -30,16 +32,16 @@ module _ (list : List ℕ) (s : Site) (passed : site_rule list s ≡ Ok tt) wher
 
   pub max_s_le : (loads_of (terms_of list s)).max_s ≤ most_max_s
   unfolding loads_of
-  max_s_le = cl_max_s-le (terms_of list s) site_bounds
+  max_s_le = cl_max_s_le (terms_of list s) site_bounds
 
   -- demand 3, for every pair
   pub demand_3 : (S N : ℕ) → (verdict (terms_of list s) S N ≡ Within) ↔ Closes (terms_of list s) S N
-  demand_3 = within_iff_closes (terms_of list s) site_bounds
+  demand_3 = within_iff_closes (terms_of list s) site_bounds (passed_load list s passed)
 
   -- and the word says so
   pub word_tells : (S N : ℕ) → Tells within over (verdict_word (verdict (terms_of list s) S N)) (terms_of list s) S N
   unfolding verdict_word
-  word_tells S N = verdict_tells (terms_of list s) site_bounds S N verdict_word refl (λ r a n. refl) (λ e. cc)
+  word_tells S N = verdict_tells (terms_of list s) site_bounds (passed_load list s passed) S N verdict_word refl (λ r a n. refl) (λ e. cc)
 
   -- the acid exceedance is 0 exactly in region 0
   pub acid_zero : (S N : ℕ) → (acid_exceedance (terms_of list s) S N ≡ 0) ↔ (region (terms_of list s) S N ≡ AcidKept)
@@ -49,7 +51,7 @@ module _ (list : List ℕ) (s : Site) (passed : site_rule list s ≡ Ok tt) wher
   -- two pairs at one site, the second with as much or less S and as much or less N
   module _ (t : Site) (one : OneSite s t) {S N S' N' : ℕ} (less_s : S' ≤ S) (less_n : N' ≤ N) where
     within_stays : verdict (terms_of list s) S N ≡ Within → verdict (terms_of list t) S' N' ≡ Within
-    within_stays = rw (← terms_same list s t one) (within_less (terms_of list s) site_bounds less_s less_n)
+    within_stays = rw (← terms_same list s t one) (within_less (terms_of list s) site_bounds less_s less_n (passed_load list s passed))
 
     closes_stays : Closes (terms_of list s) S N → Closes (terms_of list t) S' N'
     closes_stays k = (demand_3_at S' N').0 (within_stays ((demand_3 S N).1 k))
@@ -80,3 +82,10 @@ never_worse list s t p l =
       acid = acid_falls list s p t l.one l.sulphur l.nitrogen;
       nutrient = nutrient_falls list s p t l.one l.sulphur l.nitrogen;
     }
+
+-- a site whose fields pass is refused, by 21, exactly where no pair closes the acid balance
+pub none_closes_at : NoneCloses
+none_closes_at list s f =
+    let n = no_pair_closes (terms_of list s) (term_bounds list s (Fields.bounds list s f)) in
+    let same : site_rule list s ≡ load_rule (terms_of list s) = fields_then list s f in
+    record { refused = (λ e. n.none.0 (sym same ∙ e), λ none. same ∙ n.none.1 none); otherwise = λ p. n.some (sym same ∙ p) }

@@ -4,19 +4,27 @@ use mathlib.Core.Path.{◌≡◌, refl, sym, ◌∙◌}
 use mathlib.Core.Logic.{◌↔◌, inl, inr}
 use mathlib.Core.List.{[], ◌∷◌}
 use native.Mathlib.Omega.{arith}
-use native.Mathlib.Nat.{mul_comm, mul-le-mul_left, le_trans, le-div_iff_mul-le}
+use native.Mathlib.Nat.{mul-zero, mul_comm, mul-le-mul_left, le_trans, le-div_iff_mul-le}
 use Rattle.std.proofs.lemmas.Bool.Decides.{nat_tests}
 use Rattle.loads.specs.Terms.{Terms, TermBounds}
-use Rattle.loads.specs.Hydrogen.{greatest_level}
-use Rattle.loads.specs.CriticalLoads.{cl_max_s, cl_min_n}
-use Rattle.loads.proofs.TermLaws.{cl_max_s_is, cl_min_n_is, cl_nut_n_is, greatest_ceiling, greatest_limit, cl_max_s_greatest}
+use lib.IntN.{pos, ◌+ℤ◌, ◌*ℤ◌}
+use lib.Signed.{◌≤ℤ◌, ◌<ℤ◌}
+use Rattle.std.proofs.lemmas.Int.{ints}
+use Rattle.std.specs.Prelude.{Ok, Err}
+use Rattle.site.specs.declared.Rule.TheVariants.{LoadBelowZero}
+use Rattle.loads.specs.Hydrogen.{hydrogen, aluminium, bicarbonate, net, greatest_level}
+use Rattle.loads.specs.MaxS.{signed_max_s, load_rule, cl_max_s}
+use Rattle.loads.specs.CriticalLoads.{cl_min_n}
+use Rattle.loads.proofs.TermLaws.{signed_sum, leaching_net, cl_max_s_is, cl_min_n_is, cl_nut_n_is, greatest_ceiling, greatest_least, greatest_limit, net_greatest, cl_max_s_greatest}
+use Rattle.loads.proofs.NetLaws.{net_is}
+use Rattle.loads.proofs.MaxSLaws.{load_whole, load_decided, load_negative, negative_load}
 use Rattle.judgement.specs.declared.Region.{Region}
 use Rattle.judgement.specs.declared.Region.TheVariants.{AcidKept, NoSulphur, Slope, Corner, SulphurOnly}
 use Rattle.judgement.specs.declared.Verdict.{Verdict}
 use Rattle.judgement.specs.declared.Verdict.TheVariants.{Within, Over}
 use Rattle.judgement.specs.Regions.{region_number}
 use Rattle.judgement.specs.Verdicts.{region, acid_exceedance, nutrient_exceedance, verdict_of, verdict, verdict_numbers}
-use Rattle.judgement.specs.Balance.{Allowed, Closes, Tells}
+use Rattle.judgement.specs.Balance.{Allowed, AcidCloses, Closes, NoPairCloses, Tells}
 use Rattle.judgement.proofs.RegionLaws.{zero_closes, closes_zero}
 
 -- N is at most m + X / e exactly where e × (N − m) is at most X
@@ -47,25 +55,66 @@ within_where : {r : Region} (a : ℕ) {n : ℕ} → r ≡ AcidKept → n ≡ 0 �
 unfolding verdict_of
 within_where a {n} e z = rw (e, z)
 
-greatest_allowed : (t : Terms) → Allowed t (greatest_level t)
-greatest_allowed t = record { ceiling = greatest_ceiling t; aluminium_limit = greatest_limit t }
+-- ---- the acid balance and CLmaxS
+
+-- the balance by what is lost, on ℕ: nothing is cut off
+pub by_loss : (t : Terms) (x h : ℕ)
+    → (pos x ≤ℤ (pos 1000 *ℤ (pos t.supply +ℤ net t h))) ↔ (x + 1000 * bicarbonate t h ≤ 1000 * (t.supply + hydrogen t h + aluminium t h))
+by_loss t x h = (λ l. omega (arith, ints, net_is t h, l), λ l. omega (arith, ints, net_is t h, l))
 
 module _ (t : Terms) (b : TermBounds t) where
+  pub greatest_allowed : Allowed t (greatest_level t)
+  greatest_allowed = record { least = greatest_least t b; ceiling = greatest_ceiling t; aluminium_limit = greatest_limit t }
+
   pub nutrient_iff : (N : ℕ) → (nutrient_exceedance t N ≡ 0) ↔ (t.e * (N - cl_min_n t) ≤ 1000 * t.L)
   unfolding nutrient_exceedance
   nutrient_iff N = rw (cl_nut_n_is t) (nutrient_zero N (cl_min_n t) (1000 * t.L) t.e b.e_least)
 
+  -- below zero no pair closes: an allowed level brings at most the net of the greatest, and that is less than nothing
+  none_closes : signed_max_s t <ℤ pos 0 → (S N : ℕ) → AcidCloses t S N → ⊥
+  none_closes below S N k =
+      let most = net_greatest t k.h k.allowed.least k.allowed.ceiling k.allowed.aluminium_limit in
+      omega (arith, ints, k.balance, most, signed_sum t, below)
+
+  -- from zero on the pair of no deposition closes, at the greatest level
+  zero_closes_acid : load_rule t ≡ Ok tt → AcidCloses t 0 0
+  zero_closes_acid p = record {
+    u = 0;
+    i = 0;
+    h = greatest_level t;
+    taken_up = omega arith;
+    immobilised = omega arith;
+    deposited = omega arith;
+    allowed = greatest_allowed;
+    balance = rw mul-zero (omega (arith, ints, load_whole t p, signed_sum t, leaching_net t));
+  }
+
+  negative_iff : (load_rule t ≡ Err LoadBelowZero) ↔ (signed_max_s t <ℤ pos 0)
+  negative_iff = (λ e. load_negative t e, λ l. negative_load t l)
+
+  pub no_pair_closes : NoPairCloses t
+  no_pair_closes = record {
+    negative = negative_iff;
+    none = (λ e. none_closes (negative_iff.0 e), λ none. load_decided t (λ p. absurd (none 0 0 (zero_closes_acid p))) (λ e. e));
+    some = zero_closes_acid;
+  }
+
+-- ---- where rule 21 passes
+
+module _ (t : Terms) (b : TermBounds t) (passed : load_rule t ≡ Ok tt) where
   module _ (S N : ℕ) where
     -- balances that close are closed by all that the site offers, at the greatest level
     pub closes_judged : Closes t S N → (region t S N ≡ AcidKept) × (nutrient_exceedance t N ≡ 0)
     unfolding region
     closes_judged k =
+        let a = k.acid in
         let m = cl_min_n t in
-        let rest : N - m ≤ N - k.u - k.i = omega (arith, cl_min_n_is t, k.taken_up, k.immobilised) in
-        let left : t.e * (N - m) ≤ t.e * (N - k.u - k.i) = mul-le-mul_left t.e rest in
-        let most = cl_max_s_greatest t k.h k.allowed.ceiling k.allowed.aluminium_limit in (
-          closes_zero S N (cl_max_s t) m t.e (omega (arith, left, k.acid_balance, most)),
-          (nutrient_iff N).1 (le_trans left k.nitrogen_balance),
+        let rest : N - m ≤ N - a.u - a.i = omega (arith, cl_min_n_is t, a.taken_up, a.immobilised) in
+        let left : t.e * (N - m) ≤ t.e * (N - a.u - a.i) = mul-le-mul_left t.e rest in
+        let most = cl_max_s_greatest t passed a.h a.allowed.least a.allowed.ceiling a.allowed.aluminium_limit in
+        let closed = (by_loss t (1000 * S + t.e * (N - a.u - a.i)) a.h).0 a.balance in (
+          closes_zero S N (cl_max_s t) m t.e (omega (arith, left, closed, most)),
+          (nutrient_iff t b N).1 (le_trans left k.nitrogen_balance),
         )
 
     pub judged_closes : region t S N ≡ AcidKept → nutrient_exceedance t N ≡ 0 → Closes t S N
@@ -75,15 +124,19 @@ module _ (t : Terms) (b : TermBounds t) where
         let i = min (N - u) t.Ni in
         let rest : N - u - i ≡ N - cl_min_n t = omega (arith, cl_min_n_is t) in
         record {
-          u = u;
-          i = i;
-          h = greatest_level t;
-          taken_up = omega arith;
-          immobilised = omega arith;
-          deposited = omega arith;
-          allowed = greatest_allowed t;
-          nitrogen_balance = rw rest ((nutrient_iff N).0 z);
-          acid_balance = rw rest (omega (arith, cl_max_s_is t, zero_closes S N (cl_max_s t) (cl_min_n t) t.e r));
+          acid = record {
+            u = u;
+            i = i;
+            h = greatest_level t;
+            taken_up = omega arith;
+            immobilised = omega arith;
+            deposited = omega arith;
+            allowed = greatest_allowed t b;
+            balance =
+                (by_loss t (1000 * S + t.e * (N - u - i)) (greatest_level t)).1
+                (rw rest (omega (arith, cl_max_s_is t passed, zero_closes S N (cl_max_s t) (cl_min_n t) t.e r)));
+          };
+          nitrogen_balance = rw rest ((nutrient_iff t b N).0 z);
         }
 
     -- demand 3, for every pair

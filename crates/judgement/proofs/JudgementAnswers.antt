@@ -2,7 +2,7 @@
 use Rattle.std.proofs.Common.{ℕ, List, ◌-◌, ◌≡◌, refl, ◌&&◌, arith, [], ◌∷◌, eqb, Ok, Err}
 use Rattle.std.proofs.lemmas.Bool.Decides.{nat_tests}
 use Rattle.site.specs.Choice.{pick}
-use Rattle.site.specs.Check.{site_rule}
+use Rattle.loads.specs.Check.{site_rule}
 use Rattle.site.specs.declared.Site.{Site}
 use Rattle.site.specs.declared.Rule.{Rule}
 use Rattle.std.specs.Prelude.{Ok, Err}

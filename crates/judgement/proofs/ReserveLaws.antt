@@ -11,8 +11,8 @@ use Rattle.judgement.specs.Balance.{Closes}
 use Rattle.judgement.specs.Reserve.{AtReserves}
 use Rattle.judgement.proofs.AtSites.{demand_3}
 
-untaken : (list : List ℕ) (s : Site) → Reserve s → {S N : ℕ} (k : Closes (terms_of list s) S N) → k.u ≡ 0
-untaken list s r k = omega (arith, k.taken_up, (no_uptake list s r).nitrogen)
+untaken : (list : List ℕ) (s : Site) → Reserve s → {S N : ℕ} (k : Closes (terms_of list s) S N) → k.acid.u ≡ 0
+untaken list s r k = omega (arith, k.acid.taken_up, (no_uptake list s r).nitrogen)
 
 pub at_reserve : AtReserves
 at_reserve list s r = record {

@@ -4,10 +4,11 @@ use Rattle.site.specs.Choice.{pick}
 use Rattle.site.specs.declared.Site.{Site}
 use Rattle.site.specs.declared.Rule.{Rule}
 use Rattle.site.specs.Refusal.{refusal_values, and_then}
-use Rattle.site.specs.Check.{site_rule}
+use Rattle.loads.specs.Check.{site_rule}
 use Rattle.loads.specs.Terms.{Terms}
 use Rattle.loads.specs.SiteTerms.{terms_of}
-use Rattle.loads.specs.CriticalLoads.{cl_max_s, cl_min_n, cl_max_n, cl_nut_n, loads_of, load_numbers}
+use Rattle.loads.specs.MaxS.{cl_max_s}
+use Rattle.loads.specs.CriticalLoads.{cl_min_n, cl_max_n, cl_nut_n, loads_of, load_numbers}
 use Rattle.judgement.specs.declared.Judged.{Judged}
 use Rattle.judgement.specs.Regions.{region_number}
 use Rattle.judgement.specs.Verdicts.{region, acid_exceedance, nutrient_exceedance, verdict, verdict_numbers, verdict_word, within, over}

@@ -1,7 +1,7 @@
 -- Less deposition is never worse.
 use Rattle.std.specs.Prelude.{ℕ, ◌≤◌, ◌≡◌, List, Ok}
 use Rattle.site.specs.declared.Site.{Site}
-use Rattle.site.specs.Check.{site_rule}
+use Rattle.loads.specs.Check.{site_rule}
 use Rattle.site.specs.OneSite.{OneSite}
 use Rattle.loads.specs.SiteTerms.{terms_of}
 use Rattle.judgement.specs.Verdicts.{acid_exceedance, nutrient_exceedance, verdict, verdict_word, within, over}

@@ -2,7 +2,7 @@
 -- pair, they close with u = 0 and with no other u.
 use Rattle.std.specs.Prelude.{ℕ, ◌≡◌, ◌↔◌, List, Ok}
 use Rattle.site.specs.declared.Site.{Site}
-use Rattle.site.specs.Check.{site_rule}
+use Rattle.loads.specs.Check.{site_rule}
 use Rattle.site.specs.Reserve.{Reserve}
 use Rattle.loads.specs.Terms.{Terms}
 use Rattle.loads.specs.SiteTerms.{terms_of}
@@ -13,10 +13,10 @@ use Rattle.judgement.specs.Balance.{Closes}
 -- the same balances close, with no uptake
 pub record ClosesUntaken (t : Terms) (S N : ℕ) : Type 0 where
   pub closes : Closes t S N
-  pub untaken : closes.u ≡ 0
+  pub untaken : closes.acid.u ≡ 0
 
 pub record AtReserve (list : List ℕ) (s : Site) : Type 0 where
-  pub closing : (S N : ℕ) (k : Closes (terms_of list s) S N) → k.u ≡ 0
+  pub closing : (S N : ℕ) (k : Closes (terms_of list s) S N) → k.acid.u ≡ 0
   -- so a reserve that passes the check is within exactly where they close with no uptake
   pub mark : site_rule list s ≡ Ok tt → (S N : ℕ) → (verdict (terms_of list s) S N ≡ Within) ↔ ClosesUntaken (terms_of list s) S N
 

@@ -2,7 +2,8 @@
 use Rattle.std.specs.Prelude.{ℕ, ◌-◌, ◌&&◌, List, [], ◌∷◌, eqb}
 use Rattle.site.specs.Choice.{pick}
 use Rattle.loads.specs.Terms.{Terms}
-use Rattle.loads.specs.CriticalLoads.{cl_max_s, cl_min_n, cl_nut_n}
+use Rattle.loads.specs.MaxS.{cl_max_s}
+use Rattle.loads.specs.CriticalLoads.{cl_min_n, cl_nut_n}
 use Rattle.judgement.specs.declared.Region.{Region}
 use Rattle.judgement.specs.declared.Verdict.{Verdict}
 use Rattle.judgement.specs.declared.Verdict.TheVariants.{Within, Over}

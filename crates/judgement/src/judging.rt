@@ -1,6 +1,6 @@
 // The verdict, and the call open to users.
 ghost use Rattle.std.specs.Prelude.{◌≡◌, ◌-◌};
-ghost use Rattle.site.specs.Check.{site_rule};
+ghost use Rattle.loads.specs.Check.{site_rule};
 ghost use Rattle.site.specs.Refusal.{values_if};
 ghost use Rattle.loads.specs.SiteTerms.{terms_of};
 ghost use Rattle.judgement.specs.Regions.{region_of, acid_of};
@@ -10,7 +10,8 @@ ghost use Rattle.judgement.specs.Balance.{Says};
 
 use crate::position::Position;
 use crate::{Judged, Region, Verdict};
-use site::{PassedSite, Rule, Site, SpeciesList};
+use loads::PassedSite;
+use site::{Rule, Site, SpeciesList};
 
 impl Position {
     // Within needs region 0 and nutrient exceedance 0.

@@ -6,8 +6,7 @@ ghost use Rattle.site.specs.Ranges.{deposition_range};
 ghost use Rattle.loads.specs.MostTerms.{most_max_s};
 ghost use Rattle.judgement.specs.Regions.{D, excess};
 
-use loads::{Loads, loads_at, undenitrified_at};
-use site::PassedSite;
+use loads::{Loads, PassedSite, undenitrified_at};
 
 // The ghost fields keep every product of these within 64 bits.
 #[derive(Clone, Copy)]
@@ -34,7 +33,7 @@ impl Position {
         Position {
             sulphur: u64::from(site.sulphur),
             nitrogen: u64::from(site.nitrogen),
-            loads: loads_at(passed),
+            loads: passed.loads,
             undenitrified: undenitrified_at(site),
         }
     }

@@ -5,12 +5,13 @@ use mathlib.Core.Path.{◌≡◌, refl}
 use native.Mathlib.Omega.{arith}
 use lib.ListN.{length}
 use Rattle.std.specs.Prelude.{Ok, Err}
-use Rattle.site.specs.Check.{site_rule}
+use Rattle.loads.specs.Check.{site_rule}
 use Rattle.site.specs.Refusal.{and_then, values_if}
 use Rattle.site.specs.Values.{value_rule}
 use Rattle.site.specs.declared.Site.{Site}
 use Rattle.site.specs.declared.Rule.{Rule}
 use Rattle.site.proofs.FieldLaws.{site_passed}
+use Rattle.loads.proofs.CheckLaws.{passed_fields}
 use Rattle.site.proofs.ByCheckLaws.{given_by_lem, refused_by, values_by}
 use Rattle.loads.specs.declared.Searched.{Searched}
 use Rattle.loads.specs.SiteTerms.{terms_of}
@@ -26,7 +27,9 @@ module _ (list : List ℕ) (s : Site) where
   -- rule 8 for percolation, gibbsite constant and ceiling is a part of the site's check
   search_passed : site_rule list s ≡ Ok tt → level_rule s.percolation s.gibbsite s.ceiling ≡ Ok tt
   unfolding level_rule and_then value_rule
-  search_passed e = rw ((site_passed list s e 6 (omega arith) (omega arith)).1, (site_passed list s e 12 (omega arith) (omega arith)).1) (site_passed list s e 13 (omega arith) (omega arith)).1
+  search_passed e =
+      let f = passed_fields list s e in
+      rw ((site_passed list s f 6 (omega arith) (omega arith)).1, (site_passed list s f 12 (omega arith) (omega arith)).1) (site_passed list s f 13 (omega arith) (omega arith)).1
 
   pub search_at : site_rule list s ≡ Ok tt → level_answer s.percolation s.gibbsite (terms_of list s).A s.ceiling ≡ site_level list s
   unfolding level_answer site_level and_then searched_at terms_of

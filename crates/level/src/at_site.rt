@@ -1,6 +1,6 @@
 // The search with the values of a site and its aluminium limit.
 ghost use Rattle.std.specs.Prelude.{◌≡◌};
-ghost use Rattle.site.specs.Check.{site_rule};
+ghost use Rattle.loads.specs.Check.{site_rule};
 ghost use Rattle.site.specs.Refusal.{values_if};
 ghost use Rattle.loads.specs.SiteTerms.{terms_of};
 ghost use Rattle.loads.specs.Search.{level_numbers, FewAt, level_values};

@@ -7,12 +7,13 @@ use native.Mathlib.Omega.{arith}
 use lib.ListN.{length, get_or, length-map}
 use Rattle.site.specs.declared.Site.{Site}
 use Rattle.std.specs.Prelude.{Ok}
-use Rattle.site.specs.Check.{site_rule}
+use Rattle.loads.specs.Check.{site_rule}
 use Rattle.site.specs.Values.{name_byte, value_rule}
 use Rattle.std.specs.List.{list_all}
 use Rattle.site.proofs.Tests.{and_l, and_r}
 use Rattle.site.proofs.Passing.{ranged_passed}
 use Rattle.site.proofs.FieldLaws.{site_passed}
+use Rattle.loads.proofs.CheckLaws.{passed_fields}
 use Rattle.judgement.specs.Balance.{Says}
 use Rattle.judgement.specs.Verdicts.{verdict_word}
 use Rattle.judgement.proofs.JudgementAnswers.{judged_says}
@@ -44,7 +45,7 @@ name_free b n (x ∷ xs) e =
 
 pub site_name_free : (b : ℕ) → name_byte b ≡ false → (list : List ℕ) (s : Site) → site_rule list s ≡ Ok tt → free b (name_text (row_of list s)) ≡ true
 unfolding row_of row_by name_text value_rule
-site_name_free b n list s p = name_free b n _ (ranged_passed _ (site_passed list s p 1 (omega arith) (omega arith)).1)
+site_name_free b n list s p = name_free b n _ (ranged_passed _ (site_passed list s (passed_fields list s p) 1 (omega arith) (omega arith)).1)
 
 no_end : name_byte 10 ≡ false
 unfolding name_byte

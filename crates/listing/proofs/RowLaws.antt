@@ -4,7 +4,8 @@ use mathlib.Core.List.{List, [], ◌∷◌}
 use Prim.Native.Nat.{ℕ}
 use Rattle.site.specs.declared.Site.{Site}
 use Rattle.loads.specs.SiteTerms.{terms_of}
-use Rattle.loads.specs.CriticalLoads.{cl_max_s, cl_min_n, cl_max_n, cl_nut_n, loads_of, load_numbers}
+use Rattle.loads.specs.MaxS.{cl_max_s}
+use Rattle.loads.specs.CriticalLoads.{cl_min_n, cl_max_n, cl_nut_n, loads_of, load_numbers}
 use Rattle.judgement.specs.Regions.{region_number}
 use Rattle.judgement.specs.Verdicts.{region, acid_exceedance, nutrient_exceedance}
 use Rattle.judgement.specs.Answers.{judged_of}

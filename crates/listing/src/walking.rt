@@ -6,8 +6,9 @@ ghost use Rattle.listing.specs.Rows.{row_by, row_of, walked_of};
 
 use arrayvec::ArrayVec;
 use judgement::{Judged, judge_passed};
-use record::Records;
-use site::{PassedSite, Refusal, Site, SpeciesList};
+use loads::PassedSite;
+use record::{Found, Records};
+use site::{Refusal, Site, SpeciesList};
 use text::Row;
 
 #[tactic(auto, unfolding(crate::specs::Rows::row_by))]
@@ -36,9 +37,9 @@ pub fn walk_file(file: &[u8], list: SpeciesList<'_>) -> Result<ArrayVec<Row, 500
 {
     let mut records = Records::of(file, list)?;
     let mut rows = ArrayVec::new();
-    while let Some(site) = records.next()? {
-        // a site that was read passes the check
-        rows.push(row_of(PassedSite { site, list }));
+    while let Some(Found { site, loads, .. }) = records.next()? {
+        // a site that was read passes the check, and its loads are worked out
+        rows.push(row_of(PassedSite { site, list, loads }));
     }
     Ok(rows)
 }

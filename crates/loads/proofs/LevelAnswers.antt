@@ -17,5 +17,6 @@ level_passed q k ceiling e =
     record {
       percolation = (between_passed percolation_range q first.0).1;
       gibbsite = (between_passed gibbsite_range k second.0).1;
+      least = (between_passed ceiling_range ceiling second.1).0;
       level = (between_passed ceiling_range ceiling second.1).1;
     }

@@ -69,3 +69,7 @@ al_of_bound a b c = omega (arith, al_le a b c)
 pub al_of-one : {q k : ℕ} → q ≤ percolation_range.most → k ≤ gibbsite_range.most → al_of q k 1 ≡ 0
 unfolding al_of
 al_of-one a b = rw mul-one (div-eq_of_lt (omega (arith, qk_le a b)))
+
+-- so the greatest allowed level is at least 1
+pub level_least : {q k : ℕ} → q ≤ percolation_range.most → k ≤ gibbsite_range.most → (limit ceiling : ℕ) → 1 ≤ ceiling → 1 ≤ level_of q k limit ceiling
+level_least {q} {k} a b limit ceiling c = level_greatest q k limit ceiling 1 c (omega (arith, al_of-one a b))

@@ -8,7 +8,10 @@ pub mod GreatestLaws
 pub mod LevelLaws
 pub mod SearchLaws
 pub mod LevelAnswers
+pub mod NetLaws
+pub mod MaxSLaws
 pub mod TermLaws
+pub mod CheckLaws
 pub mod SiteTermLaws
 pub mod ReserveLaws
 pub mod LoadBounds
@@ -16,4 +19,5 @@ pub mod OneSiteLaws
 pub mod LimitAnswers
 pub mod LoadsAnswers
 pub mod ExampleTerms
+pub mod WithoutDioxideLaws
 pub mod ListedLaws

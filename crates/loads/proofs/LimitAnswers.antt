@@ -3,7 +3,7 @@ use Prim.Native.Nat.{ℕ}
 use mathlib.Core.Path.{◌≡◌}
 use mathlib.Core.List.{List}
 use Rattle.std.specs.Prelude.{Ok, Err}
-use Rattle.site.specs.Check.{site_rule}
+use Rattle.loads.specs.Check.{site_rule}
 use Rattle.site.specs.declared.Site.{Site}
 use Rattle.site.specs.declared.Rule.{Rule}
 use Rattle.site.proofs.ByCheckLaws.{given_by_lem, refused_by}

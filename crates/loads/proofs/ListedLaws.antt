@@ -9,7 +9,7 @@ use Rattle.std.specs.Prelude.{Ok}
 use Rattle.std.specs.List.{list_all, sum_by}
 use native.Mathlib.Omega.{arith}
 use Rattle.std.proofs.lemmas.List.Sums.{sum_by-cons}
-use Rattle.site.specs.Check.{site_rule}
+use Rattle.site.specs.Check.{due_rule}
 use Rattle.site.specs.Kinds.{two_byte_species}
 use Rattle.site.specs.Ranges.{most_species}
 use Rattle.site.specs.Values.{entry_ranged}
@@ -47,7 +47,7 @@ module _ (list more : List ℕ) where
         )
 
   -- kinds 52 and 53 keep their terms
-  pub narrow_terms : (s : Site) → two_byte_species s.kind ≡ false → site_rule list s ≡ Ok tt → terms_of list s ≡ terms_of more s
+  pub narrow_terms : (s : Site) → two_byte_species s.kind ≡ false → due_rule list s ≡ Ok tt → terms_of list s ≡ terms_of more s
   unfolding terms_of nitrogen_uptake base_supply aluminium_limit base_uptake base_demand stand_sum
   narrow_terms s narrow e =
       let same = sums_same s.kind narrow (take s.stand.count s.stand.entries) (site_ranged list s e) in

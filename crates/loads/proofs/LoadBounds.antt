@@ -17,13 +17,14 @@ use Rattle.loads.specs.Uptake.{nitrogen_in, base_in, weight_of, stand_sum, nitro
 use Rattle.loads.specs.Terms.{Terms}
 use Rattle.loads.specs.Nitrogen.{undenitrified}
 use Rattle.loads.specs.SiteTerms.{terms_of}
-use Rattle.loads.specs.CriticalLoads.{cl_max_s, cl_min_n, cl_max_n, cl_nut_n}
+use Rattle.loads.specs.MaxS.{cl_max_s}
+use Rattle.loads.specs.CriticalLoads.{cl_min_n, cl_max_n, cl_nut_n}
 use Rattle.loads.proofs.Numbers.{prod, quotient_le}
 use Rattle.loads.proofs.Tables.{nitrogen_content_le, base_content_le}
 use Rattle.loads.proofs.DenitrifiedLaws.{undenitrified_least, e_is}
 use Rattle.loads.proofs.UptakeLaws.{entries_bounds}
 use Rattle.loads.proofs.SiteTermLaws.{term_bounds, leaching_is, demand_is}
-use Rattle.loads.proofs.TermLaws.{cl_max_s-le}
+use Rattle.loads.proofs.TermLaws.{cl_max_s_le}
 
 pub record LoadBounds (t : Terms) : Type 0 where
   pub cl_max_s_most : cl_max_s t ≤ most_max_s
@@ -74,7 +75,7 @@ module _ (list : List ℕ) (a : AllBytes list) (s : Site) (b : Bounds s) where
   pub load_bounds : LoadBounds (terms_of list s)
   unfolding cl_max_n cl_nut_n
   load_bounds =
-      let acid = cl_max_s-le (terms_of list s) (term_bounds list s b) in
+      let acid = cl_max_s_le (terms_of list s) (term_bounds list s b) in
       record {
         cl_max_s_most = acid;
         cl_min_n_most = cl_min_n-le;

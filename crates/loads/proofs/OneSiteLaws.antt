@@ -2,7 +2,7 @@
 use mathlib.Core.Path.{◌≡◌, refl}
 use mathlib.Core.List.{List}
 use Prim.Native.Nat.{ℕ}
-use Rattle.site.specs.Kinds.{counted_temperature}
+use Rattle.site.specs.Kinds.{counted_temperature, counted_dioxide}
 use Rattle.site.specs.declared.Name.{Name}
 use Rattle.site.specs.declared.RecordKind.{RecordKind}
 use Rattle.site.specs.declared.Site.{Site}
@@ -18,11 +18,12 @@ pub terms_same : (list : List ℕ) (s t : Site) → OneSite s t → terms_of lis
 unfolding terms_of temperature_factor weathering available_weathering stand_sum nitrogen_uptake base_demand base_uptake base_supply aluminium_limit undenitrified leaching
 terms_same list s t one = cc
 
--- a site is one site with itself under another name, with another pair, and in a record of another kind where the same temperature counts
-pub one_with : (s : Site) (kind : RecordKind) (name : Name) (sulphur nitrogen temperature : ℕ)
-    → counted_temperature (record s { kind = kind; name = name; sulphur = sulphur; nitrogen = nitrogen; temperature = temperature }) ≡ counted_temperature s
-    → OneSite (record s { kind = kind; name = name; sulphur = sulphur; nitrogen = nitrogen; temperature = temperature }) s
-one_with s kind name sulphur nitrogen temperature counts = record {
+-- a site is one site with itself under another name, with another pair, and in a record of another kind where the same temperature and carbon dioxide count
+pub one_with : (s : Site) (kind : RecordKind) (name : Name) (sulphur nitrogen temperature dioxide : ℕ)
+    → counted_temperature (record s { kind = kind; name = name; sulphur = sulphur; nitrogen = nitrogen; temperature = temperature; dioxide = dioxide }) ≡ counted_temperature s
+    → counted_dioxide (record s { kind = kind; name = name; sulphur = sulphur; nitrogen = nitrogen; temperature = temperature; dioxide = dioxide }) ≡ counted_dioxide s
+    → OneSite (record s { kind = kind; name = name; sulphur = sulphur; nitrogen = nitrogen; temperature = temperature; dioxide = dioxide }) s
+one_with s kind name sulphur nitrogen temperature dioxide counts lost = record {
   parent = refl;
   clay = refl;
   sand = refl;
@@ -38,4 +39,5 @@ one_with s kind name sulphur nitrogen temperature counts = record {
   ceiling = refl;
   leachate = refl;
   temperature = counts;
+  dioxide = lost;
 }

@@ -14,11 +14,14 @@ use Rattle.loads.specs.Texture.{texture_of}
 use Rattle.loads.specs.Weathering.{class_of, weathering_of, weathering, available_of, available_weathering}
 use Rattle.loads.specs.Uptake.{base_in, nitrogen_in, stand_sum, uptake_divisor, nitrogen_uptake, base_demand, base_uptake_of, base_uptake}
 use Rattle.loads.specs.Supply.{base_supply, limit_of, aluminium_limit}
-use Rattle.loads.specs.Hydrogen.{hydrogen_of, al_of, level_of, hydrogen, aluminium, greatest_level, critical_leaching}
+use Rattle.site.specs.Kinds.{counted_dioxide}
+use lib.IntN.{pos, ◌+ℤ◌, ◌-ℤ◌}
+use Rattle.loads.specs.Hydrogen.{hydrogen_of, al_of, bicarbonate_of, level_of, hydrogen, aluminium, bicarbonate, net, greatest_level, critical_leaching}
 use Rattle.loads.specs.Nitrogen.{leaching_of, leaching}
 use Rattle.loads.specs.Terms.{TermBounds}
 use Rattle.loads.specs.SiteTerms.{terms_of}
-use Rattle.loads.specs.CriticalLoads.{cl_max_s, cl_min_n}
+use Rattle.loads.specs.MaxS.{signed_max_s}
+use Rattle.loads.specs.CriticalLoads.{cl_min_n}
 use Rattle.loads.proofs.Numbers.{prod, part_le, quotient_le, pick-le}
 use Rattle.loads.proofs.Tables.{class_le}
 use Rattle.loads.proofs.TemperatureLaws.{site_factor_le}
@@ -60,11 +63,12 @@ module _ (list : List ℕ) (s : Site) where
   leaching_is = refl
 
   -- CLmaxS and CLminN by plain numbers
-  pub cl_max_s_plain :
+  pub signed_max_s_plain :
       let h = level_of s.percolation s.gibbsite (terms_of list s).A s.ceiling in
-      cl_max_s (terms_of list s) ≡ (terms_of list s).supply + (hydrogen_of s.percolation h + al_of s.percolation s.gibbsite h)
-  unfolding terms_of cl_max_s critical_leaching hydrogen aluminium greatest_level
-  cl_max_s_plain = refl
+      signed_max_s (terms_of list s)
+      ≡ pos (terms_of list s).supply +ℤ (pos (hydrogen_of s.percolation h + al_of s.percolation s.gibbsite h) -ℤ pos (bicarbonate_of s.percolation (counted_dioxide s) h))
+  unfolding terms_of signed_max_s critical_leaching net hydrogen aluminium bicarbonate greatest_level
+  signed_max_s_plain = refl
 
   pub cl_min_n_plain : cl_min_n (terms_of list s) ≡ stand_sum (nitrogen_in list) s.stand.entries s.stand.count / uptake_divisor + s.immobilisation
   unfolding terms_of cl_min_n nitrogen_uptake
@@ -111,7 +115,10 @@ module _ (list : List ℕ) (s : Site) (b : Bounds s) where
     supply_le = omega (arith, supply_is list s, weathered, b.deposition);
     A_le = limited;
     Q_le = b.percolation;
+    K_le = b.gibbsite;
+    H_least = b.ceiling_least;
     H_le = b.ceiling;
     e_least = undenitrified-pos s;
     e_most = undenitrified_most s;
+    P_le = b.dioxide;
   }

@@ -15,7 +15,7 @@ use Rattle.std.proofs.lemmas.List.{get_or-map}
 use Rattle.std.proofs.lemmas.List.FromFn.{get_or-map-range_with_len}
 use Rattle.site.specs.Ranges.{temperature_range}
 use Rattle.site.specs.Bounds.{Bounds}
-use Rattle.site.specs.Check.{site_rule}
+use Rattle.site.specs.Check.{due_rule}
 use Rattle.site.proofs.BoundsLaw.{bounds}
 use mathlib.Core.List.{List}
 use Rattle.site.specs.declared.Site.{Site}
@@ -100,7 +100,7 @@ module _ (s : Site) where
   site_factor_le b = factor_le _ b.temperature
 
   -- so at every site that passes, W is made with the rule's t
-  pub passing_weathering : (list : List ℕ) → site_rule list s ≡ Ok tt → record {
+  pub passing_weathering : (list : List ℕ) → due_rule list s ≡ Ok tt → record {
     t : ℕ;
     rule : factor_by_rule (counted_temperature s) ≡ pos t;
     made : weathering s ≡ pick (eqb s.parent 0) 0 ((500 * class_of s.parent (texture_of s.clay s.sand) - 250) * s.depth * t / 100000);

@@ -6,15 +6,11 @@ use Rattle.std.specs.Prelude.{ℕ, ◌+◌, ◌*◌, ◌/◌, List, [], ◌∷�
 use Rattle.site.specs.declared.Site.{Site}
 use Rattle.site.specs.declared.Rule.{Rule}
 use Rattle.site.specs.Refusal.{refusal_values, and_then}
-use Rattle.site.specs.Check.{site_rule}
+use Rattle.loads.specs.MaxS.{cl_max_s}
+use Rattle.loads.specs.Check.{site_rule}
 use Rattle.loads.specs.declared.Loads.{Loads}
 use Rattle.loads.specs.Terms.{Terms}
 use Rattle.loads.specs.SiteTerms.{terms_of}
-use Rattle.loads.specs.Hydrogen.{critical_leaching}
-
--- CLmaxS
-unfoldable pub cl_max_s : Terms → ℕ
-cl_max_s t = t.supply + critical_leaching t
 
 -- CLminN
 unfoldable pub cl_min_n : Terms → ℕ

@@ -1,13 +1,15 @@
--- The hydrogen level: whole tenths of meq per cubic metre.
-use Rattle.std.specs.Prelude.{ℕ, zero, suc, ◌+◌, ◌*◌, ◌/◌, ◌^◌, ◌≤◌, Bool, leb}
+-- The hydrogen level: whole tenths of meq per cubic metre, from 1 (document 02, E13), and what is leached there.
+use Rattle.std.specs.Prelude.{ℕ, zero, suc, ◌+◌, ◌*◌, ◌/◌, ◌^◌, ◌≤◌, Bool, leb, ℤ, pos, ◌-ℤ◌}
 use Rattle.site.specs.Choice.{pick}
 use Rattle.site.specs.Ranges.{percolation_range, gibbsite_range, ceiling_range}
+use Rattle.loads.specs.Rounding.{up}
 use Rattle.loads.specs.Terms.{Terms}
 
 -- percolation, gibbsite constant and a hydrogen ceiling keep to their ranges
 pub record Levels (q k ceiling : ℕ) : Type 0 where
   pub percolation : q ≤ percolation_range.most
   pub gibbsite : k ≤ gibbsite_range.most
+  pub least : ceiling_range.least ≤ ceiling
   pub level : ceiling ≤ ceiling_range.most
 
 -- hydrogen that percolation q leaches at the level h
@@ -18,7 +20,11 @@ hydrogen_of q h = q * h / 1000
 unfoldable pub al_of : (q k h : ℕ) → ℕ
 al_of q k h = q * k * h ^ 3 / 10 ^ 12
 
--- the greatest number up to n that passes a test, and 0 where none does
+-- bicarbonate that percolation q leaches at the level h, of soil carbon dioxide p
+unfoldable pub bicarbonate_of : (q p h : ℕ) → ℕ
+bicarbonate_of q p h = up (q * p) (50 * h)
+
+-- the greatest number from 1 to n that passes a test, and 0 where none does
 unfoldable pub greatest_where : (ℕ → Bool) → ℕ → ℕ
 greatest_where test zero = 0
 greatest_where test (suc n) = let below = greatest_where test n in pick (test (suc n)) (suc n) below
@@ -27,7 +33,7 @@ greatest_where test (suc n) = let below = greatest_where test n in pick (test (s
 abbrev pub within_limit : (q k limit h : ℕ) → Bool
 within_limit q k limit h = leb (al_of q k h) limit
 
--- the greatest allowed level: at most the ceiling, and al(h) at most the limit; level 0 is always allowed, since al(0) is 0
+-- the greatest allowed level: from 1 to the ceiling, and al(h) at most the limit; level 1 is always allowed, since al(1) is 0
 unfoldable pub level_of : (q k limit ceiling : ℕ) → ℕ
 level_of q k limit ceiling = greatest_where (within_limit q k limit) ceiling
 
@@ -41,6 +47,13 @@ aluminium t h = al_of t.Q t.K h
 unfoldable pub greatest_level : Terms → ℕ
 greatest_level t = level_of t.Q t.K t.A t.H
 
+unfoldable pub bicarbonate : Terms → ℕ → ℕ
+bicarbonate t h = bicarbonate_of t.Q t.P h
+
+-- the net leaching: hydrogen plus aluminium less bicarbonate, which may be below zero
+unfoldable pub net : Terms → ℕ → ℤ
+net t h = pos (hydrogen t h + aluminium t h) -ℤ pos (bicarbonate t h)
+
 -- M
-unfoldable pub critical_leaching : Terms → ℕ
-critical_leaching t = hydrogen t (greatest_level t) + aluminium t (greatest_level t)
+unfoldable pub critical_leaching : Terms → ℤ
+critical_leaching t = net t (greatest_level t)

@@ -12,5 +12,8 @@ pub mod SiteTerms
 pub mod Reserve
 pub mod Limits
 pub mod Hydrogen
+pub mod MaxS
+pub mod Check
+pub mod WithoutDioxide
 pub mod Search
 pub mod CriticalLoads

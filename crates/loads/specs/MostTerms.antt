@@ -1,6 +1,6 @@
 -- Upper bounds of the terms at a site that passes the check, and of the loads and sums made of them, and the least e, each written once.
 use Rattle.std.specs.Prelude.{ℕ, ◌+◌, ◌*◌, ◌-◌, ◌/◌}
-use Rattle.site.specs.Ranges.{depth_range, percolation_range, share_range, share_sum, most_yield, immobilisation_range, available_range, base_deposition_range, ratio_range, ceiling_range, leachate_range}
+use Rattle.site.specs.Ranges.{depth_range, percolation_range, share_range, share_sum, most_yield, immobilisation_range, available_range, base_deposition_range, ratio_range, ceiling_range, leachate_range, dioxide_range}
 use Rattle.loads.specs.Uptake.{uptake_divisor}
 
 -- t, at 20 °C
@@ -26,6 +26,10 @@ most_a = 1500 * (base_deposition_range.most + most_available) / ratio_range.leas
 -- hydrogen; 15000
 abbrev pub most_hydrogen : ℕ
 most_hydrogen = percolation_range.most * ceiling_range.most / 1000
+
+-- bicarbonate; 300000
+abbrev pub most_bicarbonate : ℕ
+most_bicarbonate = percolation_range.most * dioxide_range.most / 50
 
 -- L; 30000
 abbrev pub most_l : ℕ

@@ -1,6 +1,7 @@
 -- How a site gives each term, with the list of species that is lent.
 use Rattle.std.specs.Prelude.{ℕ, List}
 use Rattle.site.specs.declared.Site.{Site}
+use Rattle.site.specs.Kinds.{counted_dioxide}
 use Rattle.loads.specs.Terms.{Terms}
 use Rattle.loads.specs.Uptake.{nitrogen_uptake}
 use Rattle.loads.specs.Supply.{base_supply, aluminium_limit}
@@ -17,4 +18,5 @@ terms_of list s = record {
   H = s.ceiling;
   e = undenitrified s;
   L = leaching s;
+  P = counted_dioxide s;
 }

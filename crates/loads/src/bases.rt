@@ -1,13 +1,14 @@
 // The bases that uptake leaves: the base supply, and the aluminium limit.
 ghost use Rattle.std.specs.Prelude.{◌≡◌, [], ◌∷◌};
-ghost use Rattle.site.specs.Check.{site_rule};
+ghost use Rattle.loads.specs.Check.{site_rule};
 ghost use Rattle.site.specs.Refusal.{values_if};
 ghost use Rattle.loads.specs.SiteTerms.{terms_of};
 ghost use Rattle.loads.specs.Limits.{limit_answer, limit_values};
 
+use crate::passed::PassedSite;
 use crate::uptake::base_uptake;
 use crate::valid::ValidSite;
-use site::{PassedSite, Rule, Site, SpeciesList};
+use site::{Rule, Site, SpeciesList};
 
 // B + W − Bu, and A
 #[derive(Clone, Copy)]
@@ -43,5 +44,5 @@ pub fn aluminium_limit(site: Site, list: SpeciesList<'_>) -> Result<u64, Rule>
     ensures values { limit_values result ≡ values_if (site_rule list.entry.bytes.now site) ((terms_of list.entry.bytes.now site).A ∷ []) }
 {
     let passed = PassedSite::checked(site, list)?;
-    Ok(ValidSite::of(passed).bases().limit)
+    Ok(ValidSite::of(passed.fields()).bases().limit)
 }

@@ -1,8 +1,9 @@
 // The hydrogen level: the search for the greatest allowed one, and what is leached there.
-ghost use Rattle.std.specs.Prelude.{◌≡◌, ◌+◌, ◌≤◌, [], ◌∷◌, length};
+ghost use Rattle.std.specs.Prelude.{◌≡◌, ◌+◌, ◌≤◌, [], ◌∷◌, ◌<◌, ◌^◌, length, pos, neg_ℤ, ◌-ℤ◌, ◌≤ℤ◌};
 ghost use Rattle.site.specs.Refusal.{values_if};
-ghost use Rattle.loads.specs.MostTerms.{most_hydrogen};
-ghost use Rattle.loads.specs.Hydrogen.{hydrogen_of, al_of, within_limit, level_of};
+ghost use Rattle.site.specs.Ranges.{dioxide_range};
+ghost use Rattle.loads.specs.MostTerms.{most_hydrogen, most_bicarbonate};
+ghost use Rattle.loads.specs.Hydrogen.{hydrogen_of, al_of, bicarbonate_of, within_limit, level_of};
 ghost use Rattle.loads.specs.Search.{compared_of, searched_of, FewCompared, level_rule, level_answer, level_values};
 ghost use Rattle.loads.specs.Hydrogen.{Levels};
 
@@ -67,14 +68,40 @@ impl SoilWater {
         }
     }
 
-    // M
-    #[tactic(auto, using(crate::proofs::Numbers::prod, crate::proofs::LevelLaws::level_le, crate::proofs::LevelLaws::level_allowed, crate::proofs::LevelLaws::al_of_bound), unfolding(crate::specs::Search::searched_of, crate::specs::Hydrogen::hydrogen_of))]
-    pub fn leaching(self) -> u64
-        ensures { (result ≡ hydrogen_of self.percolation (level_of self.percolation self.gibbsite self.limit self.ceiling) + al_of self.percolation self.gibbsite (level_of self.percolation self.gibbsite self.limit self.ceiling)) × (result ≤ most_hydrogen + self.limit) }
+    // bicarbonate, for soil carbon dioxide p
+    #[tactic(auto, using(crate::proofs::Numbers::prod, crate::proofs::Numbers::up_is, crate::proofs::NetLaws::bicarbonate_le), unfolding(crate::specs::Hydrogen::bicarbonate_of))]
+    fn bicarbonate(self, p: u64, h: u64) -> u64
+        requires { (p ≤ dioxide_range.most) × (1 ≤ h) × (h ≤ self.ceiling) }
+        ensures { (result ≡ bicarbonate_of self.percolation p h) × (result ≤ most_bicarbonate) }
+    {
+        (self.percolation * p).div_ceil(50 * h)
+    }
+
+    // M, for soil carbon dioxide p
+    #[tactic(auto, using(crate::proofs::Numbers::prod, crate::proofs::LevelLaws::level_le, crate::proofs::LevelLaws::level_least, crate::proofs::LevelLaws::level_allowed, crate::proofs::LevelLaws::al_of_bound), unfolding(crate::specs::Search::searched_of, crate::specs::Hydrogen::hydrogen_of))]
+    pub fn leaching(self, p: u64) -> i64
+        requires { p ≤ dioxide_range.most }
+        ensures value { let h = level_of self.percolation self.gibbsite self.limit self.ceiling in result ≡ pos (hydrogen_of self.percolation h + al_of self.percolation self.gibbsite h) -ℤ pos (bicarbonate_of self.percolation p h) }
+        ensures most { result ≤ℤ pos (most_hydrogen + self.limit) }
+        ensures least { neg_ℤ (pos most_bicarbonate) ≤ℤ result }
     {
         let h = self.search().level;
-        self.percolation * h / 1000 + self.aluminium(h)
+        net_of(
+            self.percolation * h / 1000,
+            self.aluminium(h),
+            self.bicarbonate(p, h),
+        )
     }
+}
+
+// Hydrogen plus aluminium less bicarbonate, which may be below zero.
+fn net_of(hydrogen: u64, aluminium: u64, bicarbonate: u64) -> i64
+    requires { (hydrogen < 2 ^ 32) × (aluminium < 2 ^ 32) × (bicarbonate < 2 ^ 32) }
+    ensures value { result ≡ pos (hydrogen + aluminium) -ℤ pos bicarbonate }
+    ensures most { result ≤ℤ pos (hydrogen + aluminium) }
+    ensures least { neg_ℤ (pos bicarbonate) ≤ℤ result }
+{
+    hydrogen as i64 + aluminium as i64 - bicarbonate as i64
 }
 
 // Rule 8 for percolation, gibbsite constant and hydrogen ceiling.

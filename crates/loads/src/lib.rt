@@ -5,6 +5,7 @@ mod bases;
 mod critical;
 mod hydrogen;
 mod nitrogen;
+mod passed;
 mod temperature;
 mod texture;
 mod uptake;
@@ -12,9 +13,10 @@ mod valid;
 mod weathering;
 
 pub use bases::aluminium_limit;
-pub use critical::{critical_loads, loads_at};
+pub use critical::critical_loads;
 pub use hydrogen::greatest_level;
 pub use nitrogen::undenitrified_at;
+pub use passed::{PassedSite, check_site};
 
 // The greatest allowed hydrogen level, and how many levels were compared with the aluminium limit to find it.
 #[derive(Clone, Copy, Debug, PartialEq, Eq)]

@@ -1,12 +1,12 @@
-// A site that passes the check, with the sums over its stand.
+// A site whose fields pass the check, with the sums over its stand.
 ghost use Rattle.std.specs.Prelude.{◌≡◌};
 ghost use Rattle.site.specs.Bounds.{Bounds};
 ghost use Rattle.loads.specs.Uptake.{nitrogen_in, base_in, stand_sum};
 
 use crate::uptake::{Sums, stand_sums};
-use site::{PassedSite, Site, SpeciesList};
+use site::{CheckedFields, Site, SpeciesList};
 
-// A site that passes the check, with the list of its species and the sums over its stand.
+// A site whose fields pass the check, with the list of its species and the sums over its stand.
 #[derive(Clone, Copy)]
 pub struct ValidSite<'a> {
     pub site: Site,
@@ -19,10 +19,10 @@ pub struct ValidSite<'a> {
 
 impl<'a> ValidSite<'a> {
     #[tactic(auto, using(site::proofs::BoundsLaw::bounds, crate::proofs::UptakeLaws::entries_bounds), unfolding(crate::specs::Uptake::stand_sum))]
-    pub fn of(passed: PassedSite<'a>) -> ValidSite<'a>
-        ensures { (result.site ≡ passed.entry.site) × (result.list.bytes.now ≡ passed.entry.list.bytes.now) }
+    pub fn of(fields: CheckedFields<'a>) -> ValidSite<'a>
+        ensures { (result.site ≡ fields.entry.site) × (result.list.bytes.now ≡ fields.entry.list.bytes.now) }
     {
-        let PassedSite { site, list } = passed;
+        let CheckedFields { site, list } = fields;
         let sums = stand_sums(site.stand.as_slice(), list);
         ValidSite { site, list, sums }
     }

@@ -7,13 +7,14 @@ use mathlib.Core.List.{List}
 use Rattle.numbers.specs.TwoBytes.{AllBytes}
 use Rattle.site.specs.declared.Site.{Site}
 use Rattle.std.specs.Prelude.{Ok}
-use Rattle.site.specs.Check.{site_rule}
+use Rattle.loads.specs.Check.{site_rule}
 use Rattle.site.specs.Values.{item_count}
-use Rattle.site.proofs.BoundsLaw.{bounds}
+use Rattle.loads.proofs.CheckLaws.{bounds, passed_fields}
 use Rattle.site.proofs.FieldLaws.{site_passed}
 use Rattle.site.proofs.LengthLaws.{count_parts}
 use Rattle.loads.specs.SiteTerms.{terms_of}
-use Rattle.loads.specs.CriticalLoads.{cl_max_s, cl_min_n}
+use Rattle.loads.specs.MaxS.{cl_max_s}
+use Rattle.loads.specs.CriticalLoads.{cl_min_n}
 use Rattle.loads.proofs.LoadBounds.{load_bounds}
 use Rattle.judgement.specs.declared.Region.{Region}
 use Rattle.judgement.specs.declared.Region.TheVariants.{AcidKept, NoSulphur, Slope, Corner, SulphurOnly}
@@ -70,7 +71,7 @@ module _ (list : List ℕ) (a : AllBytes list) (s : Site) (passed : site_rule li
   name_whole : Whole 8 (take s.name.len s.name.bytes)
   unfolding item_count name_text row_of row_by
   name_whole =
-      let few = count_parts 1 s (site_passed list s passed 1 (omega arith) (omega arith)).0 in
+      let few = count_parts 1 s (site_passed list s (passed_fields list s passed) 1 (omega arith) (omega arith)).0 in
       record { fits = simp length-take (omega (arith, few.1)); no_space = site_name_free 32 no_space list s passed }
 
   acid_small : acid_exceedance (terms_of list s) s.sulphur s.nitrogen < 10 ^ 7

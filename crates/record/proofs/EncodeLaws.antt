@@ -1,5 +1,5 @@
 -- Laws of a record's bytes: its fields one after another, for every kind, and the length of a site's record.
-use mathlib.Core.Path.{◌≡◌, refl, ap, ◌∙◌}
+use mathlib.Core.Path.{◌≡◌, refl, sym, ap, ◌∙◌}
 use mathlib.Core.List.{List, ◌∷◌, [], ◌++◌}
 use Prim.Native.Nat.{ℕ, ◌+◌, ◌-◌, ◌*◌, ◌/◌, ◌%◌, ◌≤◌}
 use native.Mathlib.Omega.{arith}
@@ -7,7 +7,7 @@ use lib.ListN.{length, take, length-append, length-take}
 use Rattle.site.specs.declared.Site.{Site}
 use Rattle.std.specs.Prelude.{flat_map}
 use Rattle.site.specs.declared.RecordKind.{RecordKind}
-use Rattle.site.specs.declared.RecordKind.TheVariants.{Tag52, Tag53, Tag54}
+use Rattle.site.specs.declared.RecordKind.TheVariants.{Tag52, Tag53, Tag54, Tag55}
 use Rattle.site.specs.Kinds.{kind_tag, due, entry_width}
 use Rattle.record.specs.FieldParts.{field_of}
 use Rattle.field.specs.Field.{entries_bytes, value, site_kind}
@@ -17,6 +17,7 @@ use Rattle.field.specs.Clean.{Sized}
 use Rattle.record.specs.Writer.{encode, most_site_record, added_length}
 use Rattle.output.specs.Writing.{Wrote, WroteIf}
 use Rattle.output.proofs.WritingLaws.{then, kept, wrote_some}
+use Rattle.std.proofs.lemmas.List.{append_assoc}
 use Rattle.site.proofs.Tags.{tags_from, tags_more, due_tags}
 use Rattle.field.proofs.EntryLaws.{length_entries}
 
@@ -69,6 +70,11 @@ module _ {A : Type 0} (K : Kind A) (s : A) where
   fields_each [] = refl
   fields_each (t ∷ ts) = ap (λ (l : List ℕ). field_at t ++ l) (fields_each ts)
 
+  pub fields_append : (ts us : List ℕ) → encode_fields K (ts ++ us) s ≡ encode_fields K ts s ++ encode_fields K us s
+  unfolding encode_fields
+  fields_append [] us = refl
+  fields_append (t ∷ ts) us = rw (fields_append ts us) (sym (append_assoc (field_of t (K.bytes t s)) (encode_fields K ts s) (encode_fields K us s)))
+
   pub encode_length : length (encode_as K s) ≡ 3 + length (encode_fields K K.due s)
   unfolding encode_as field_of
   encode_length = omega arith
@@ -91,11 +97,13 @@ unfolding encode_fields value field_of
 fields_length Tag52 s = simp length-append (omega arith)
 fields_length Tag53 s = simp length-append (omega arith)
 fields_length Tag54 s = simp length-append (omega arith)
+fields_length Tag55 s = simp length-append (omega arith)
 
-added_few : (k : RecordKind) → added_length k ≤ 4
+added_few : (k : RecordKind) → added_length k ≤ 9
 added_few Tag52 = omega arith
 added_few Tag53 = omega arith
 added_few Tag54 = omega arith
+added_few Tag55 = omega arith
 
 -- and all of the record, whether the site passes or not
 pub record_length : (s : Site) → length (encode s)
@@ -111,6 +119,7 @@ few_bytes : (k : RecordKind) (n : ℕ) → n ≤ 4 → entry_width k * n ≤ 20
 few_bytes Tag52 n h = omega arith
 few_bytes Tag53 n h = omega arith
 few_bytes Tag54 n h = omega arith
+few_bytes Tag55 n h = omega arith
 
 pub record_few : (s : Site) → Sized s → length (encode s) ≤ most_site_record
 record_few s z =

@@ -1,6 +1,7 @@
 pub mod ValueBytesLaws
 pub mod FieldBytes
 pub mod ResultLaws
+pub mod LoadRuleLaws
 pub mod WalkLaws
 pub mod Trips
 pub mod RecordLaws
@@ -10,6 +11,7 @@ pub mod EncodeLaws
 pub mod OuterLaws
 pub mod SiteTrips
 pub mod Place
+pub mod LostLaws
 pub mod PairLaws
 pub mod SiteFile
 pub mod UnreadLaws

@@ -6,7 +6,7 @@ use lib.ListN.{length, get_or}
 use Rattle.site.specs.Ranges.{deposition_range}
 use Rattle.site.specs.declared.Site.{Site}
 use Rattle.site.specs.declared.RecordKind.{RecordKind}
-use Rattle.site.specs.declared.RecordKind.TheVariants.{Tag52, Tag53, Tag54}
+use Rattle.site.specs.declared.RecordKind.TheVariants.{Tag52, Tag53, Tag54, Tag55}
 use Rattle.site.specs.Kinds.{due}
 use Rattle.site.proofs.Tags.{first_fifteen}
 use mathlib.Core.Path.{◌≡◌, refl}
@@ -34,6 +34,7 @@ pair_place : (k : RecordKind) → get_or (due k) 14 0 ≡ 15
 pair_place Tag52 = refl
 pair_place Tag53 = refl
 pair_place Tag54 = refl
+pair_place Tag55 = refl
 
 pub pair_range : (s : Site) → AllBytes (encode s) → PairRange s
 unfolding encode_as field_of value

@@ -9,7 +9,7 @@ use Rattle.site.specs.declared.Site.{Site}
 use Rattle.site.specs.declared.Rule.{Rule}
 use Rattle.site.specs.declared.Rule.TheVariants.{BufferShort}
 use Rattle.site.specs.Refusal.{Checked, unless}
-use Rattle.site.specs.Check.{site_rule}
+use Rattle.loads.specs.Check.{site_rule}
 use Rattle.site.proofs.Passing.{both_passed}
 use Rattle.record.specs.Outer.{read_record}
 use Rattle.field.specs.Clean.{clean, Sized}

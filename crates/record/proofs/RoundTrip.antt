@@ -12,14 +12,16 @@ use Rattle.std.specs.Prelude.{Result, Ok, Err, IfOk}
 use Rattle.site.specs.declared.Site.{Site}
 use Rattle.site.specs.declared.Refusal.{Refusal}
 use Rattle.site.specs.declared.Rule.TheVariants.{NoBytes, TooMany}
-use Rattle.site.specs.Check.{site_rule}
+use Rattle.loads.specs.Check.{site_rule}
 use Rattle.field.specs.Field.{site_kind}
 use Rattle.numbers.specs.TwoBytes.{AllBytes}
 use Rattle.field.specs.Clean.{clean, Sized}
 use Rattle.record.specs.Result.{result_numbers}
 use Rattle.record.specs.declared.Found.{Found}
-use Rattle.record.specs.Records.{most_record, record_in, only_one, single}
-use Rattle.record.specs.Outer.{site_tag, site_kinds, site_at, record_at, read_record}
+use Rattle.record.specs.Records.{most_record, only_one, single}
+use Rattle.record.specs.Outer.{fields_at, site_at, record_at, read_record}
+use Rattle.site.specs.Kinds.{counted_dioxide}
+use Rattle.record.proofs.LoadRuleLaws.{unlost_with}
 use Rattle.record.specs.File.{alone, contents_by}
 use Rattle.record.specs.Writer.{encode, WritesAgain}
 use Rattle.record.proofs.EncodeLaws.{encode_length}
@@ -32,12 +34,12 @@ use Rattle.record.proofs.SiteFile.{single_is}
 
 -- a site that passes is read again from its record, as `clean` has it: with zeros past its name and its entries, and the temperature that counts
 pub read_written : (list : List ℕ) (s : Site) → Sized s → site_rule list s ≡ Ok tt → read_record list (encode s) ≡ Ok (clean s)
-unfolding read_record site_at
+unfolding read_record
 read_written list s z e =
     let bs = encode s in
     let some : 1 ≤ length bs = omega (arith, encode_length (site_kind [] s.kind) s) in
     let end : 0 + length bs ≡ length bs = omega arith in
-    let q : record_in site_tag (site_kinds list) bs 0 ≡ Ok (clean s, length bs) = rw (append-nil, end) at (site_read list s z e [] 0) in
+    let q : site_at list bs 0 ≡ Ok (clean s, length bs) = rw end at (site_read list s z e bs [] 0 (sym (append-nil bs))) in
     ok_single (site_at list bs) (length bs) some q
 
 -- ---- what is read is written
@@ -63,6 +65,11 @@ module _ (list : List ℕ) (s : Site) (f : List ℕ) (e : read_record list f ≡
   -- an accepted record is written again byte for byte
   pub writes_again : AllBytes f → WritesAgain list s f
   writes_again b = record { passes = read_passes; bytes = written_read b }
+
+-- without carbon dioxide a record is read as its fields are
+pub unlost_read : (list f : List ℕ) (s : Site) → 1 ≤ length f → single (fields_at list f) (length f) ≡ Ok s → counted_dioxide s ≡ 0 → read_record list f ≡ Ok s
+unfolding read_record site_at
+unlost_read list f s some e none = ok_single (site_at list f) (length f) some (unlost_with list (single_ok (fields_at list f) (length f) e) none)
 
 -- two different records never read to one site, with one list or with two
 pub read_injective : (list more : List ℕ) (s : Site) (f g : List ℕ) → AllBytes f → AllBytes g → read_record list f ≡ Ok s → read_record more g ≡ Ok s → f ≡ g

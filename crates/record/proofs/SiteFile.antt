@@ -1,7 +1,7 @@
 -- Laws of a file of site records.
 use Prim.Native.Nat.{ℕ, ◌*◌, ◌-◌, ◌≤◌, ◌<◌}
 use mathlib.Core.Path.{◌≡◌, sym, ap, ◌∙◌}
-use mathlib.Core.Logic.{◌⊎◌}
+use mathlib.Core.Logic.{◌⊎◌, inl, inr, ⊎_elim}
 use mathlib.Core.List.{List, [], map}
 use native.Mathlib.Omega.{arith}
 use lib.ListN.{length, get_or, take, drop}
@@ -10,11 +10,11 @@ use Rattle.site.specs.Ranges.{most_records}
 use Rattle.site.specs.declared.Site.{Site}
 use Rattle.site.specs.declared.Refusal.{Refusal}
 use Rattle.site.specs.declared.Rule.TheVariants.{NoBytes}
-use Rattle.site.specs.Check.{site_rule}
+use Rattle.loads.specs.Check.{site_rule}
 use Rattle.field.specs.Field.{site_kind}
-use Rattle.record.specs.Outer.{site_tag, site_kinds, site_at, read_record}
+use Rattle.record.specs.Outer.{site_tag, site_kinds, fields_at, site_at, read_record}
 use Rattle.record.specs.Records.{most_record}
-use Rattle.record.specs.FirstFault.{OuterBroken, InnerBroken, FileFault}
+use Rattle.record.specs.FirstFault.{OuterBroken, InnerBroken, LoadBroken, FileFault}
 use Rattle.record.specs.File.{walk_file, contents_by, alone, contents, most_file}
 use Rattle.numbers.specs.TwoBytes.{AllBytes}
 use Rattle.field.specs.Clean.{clean, Sized}
@@ -25,7 +25,7 @@ use Rattle.record.proofs.FileLaws.{contents_none, contents_some, contents_every,
 use Rattle.record.proofs.FirstFaultLaws.{first_in_record, first_in_file, file_fault_near}
 use Rattle.record.proofs.FieldBytes.{part_bytes}
 use Rattle.record.proofs.PairLaws.{PairRange, pair_range}
-use Rattle.record.proofs.Place.{site_take, site_fault_near, site_near, site_inside, site_after, site_passes, site_clean, site_bytes, site_read}
+use Rattle.record.proofs.Place.{site_fault, site_take, site_fault_near, site_near, site_inside, site_after, site_passes, site_clean, site_bytes, site_read}
 
 module _ (list f : List ℕ) where
   pub sites_none : length f ≤ 0 → contents list f ≡ Err (record { rule = NoBytes; at = 0 })
@@ -53,9 +53,14 @@ module _ (list f : List ℕ) where
 
   -- and within the record that starts at an offset
   pub site_first_fault : (start : ℕ) {r : Refusal} → site_at list f start ≡ Err r
-      → OuterBroken site_tag (drop start f) start r ⊎ InnerBroken site_tag (site_kinds list (get_or (drop start f) 0 0)) (drop start f) start r
-  unfolding site_at
-  site_first_fault start {r} e = first_in_record site_tag (site_kinds list) (drop start f) start r e
+      → OuterBroken site_tag (drop start f) start r ⊎ InnerBroken site_tag (site_kinds list (get_or (drop start f) 0 0)) (drop start f) start r ⊎ LoadBroken list f start r
+  unfolding fields_at
+  site_first_fault start {r} e =
+      ⊎_elim
+      (λ (i : fields_at list f start ≡ Err r).
+      ⊎_elim (λ o. inl o) (λ n. inr (inl n)) (first_in_record site_tag (site_kinds list) (drop start f) start r i))
+      (λ l. inr (inr l))
+      (site_fault list f start e)
 
   -- a fault of a file lies at most 500 records of the greatest length from the start
   pub sites_fault_near : {r : Refusal} → contents list f ≡ Err r → r.at ≤ most_record * most_records
@@ -90,10 +95,10 @@ module _ (list f : List ℕ) where
 -- 1 to 500 sites that pass, encoded one after another, are read back, as `clean` has them
 pub sites_read : (list : List ℕ) (ss : List Site) → All (λ s. Sized s × (site_rule list s ≡ Ok tt)) ss → 1 ≤ length ss → length ss ≤ most_records
     → contents list (flat_map encode ss) ≡ Ok (map clean ss)
-unfolding contents site_at
+unfolding contents
 sites_read list ss ok h l =
     contents_read (site_at list) encode clean (λ s. Sized s × (site_rule list s ≡ Ok tt)) (λ s. omega (arith, encode_length (site_kind [] s.kind) s))
-    (λ s p f at rest e. rw e (site_read list s p.0 p.1 rest at)) most_records ss ok h l
+    (λ s p f at rest e. site_read list s p.0 p.1 f rest at e) most_records ss ok h l
 
 -- two different files never hold the same sites, with one list or with two
 pub sites_injective : (list more f g : List ℕ) → AllBytes f → AllBytes g → (ss : List Site) → contents list f ≡ Ok ss → contents more g ≡ Ok ss → f ≡ g

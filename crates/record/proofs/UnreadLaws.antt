@@ -68,19 +68,19 @@ module _ (list f : List ℕ) (n at : ℕ) where
 
     pub step_refused : {r : Refusal} → record_at list f at ≡ Err r → Err r ≡ step_of list f n at
     unfolding step_of
-    step_refused e = rw (lt-leb (length f) at h, here, record_err list f at e)
+    step_refused e = rw (lt-leb (length f) at h, here, e)
 
     pub after_refused : {r : Refusal} → record_at list f at ≡ Err r → (n, at) ≡ after_step list f n at
     unfolding after_step
-    after_refused e = rw (lt-leb (length f) at h, here, record_err list f at e)
+    after_refused e = rw (lt-leb (length f) at h, here, e)
 
-    pub step_found : {x : Found} → record_at list f at ≡ Ok x → Ok (Some x.site) ≡ step_of list f n at
+    pub step_found : {x : Found} → record_at list f at ≡ Ok x → Ok (Some x) ≡ step_of list f n at
     unfolding step_of
-    step_found e = rw (lt-leb (length f) at h, here, record_ok list f at e)
+    step_found e = rw (lt-leb (length f) at h, here, e)
 
     pub after_found : {x : Found} → record_at list f at ≡ Ok x → (n - 1, x.next) ≡ after_step list f n at
     unfolding after_step
-    after_found e = rw (lt-leb (length f) at h, here, record_ok list f at e)
+    after_found e = rw (lt-leb (length f) at h, here, e)
 
 -- ---- a loop that makes an element of each site: those so far, in front of those of the sites to come
 
@@ -112,7 +112,7 @@ module _ {A : Type 0} (make : Site → A) where
   pub so_start : {whole rest : Contents Site} {left : ℕ} → whole ≡ rest → left ≡ most_records → SoFar whole [] rest left
   so_start {whole} {rest} e l = record { room = omega arith; goes_on = before_none whole ∙ ap (before []) e }
 
-  module _ {whole old : Contents Site} {xs : List A} {left : ℕ} (so : SoFar whole xs old left) (q : Result (Option Site) Refusal) (new : Contents Site) (step : old ≡ came q new) where
+  module _ {whole old : Contents Site} {xs : List A} {left : ℕ} (so : SoFar whole xs old left) (q : Result (Option Found) Refusal) (new : Contents Site) (step : old ≡ came q new) where
     pub so_end : q ≡ Ok None → made_of make whole ≡ Ok xs
     unfolding before came
     so_end e = so.goes_on ∙ rw (step, e, append-nil)
@@ -121,12 +121,12 @@ module _ {A : Type 0} (make : Site → A) where
     unfolding before came
     so_fault e = made_fault whole (so.goes_on ∙ rw (step, e))
 
-    module _ {s : Site} (e : q ≡ Ok (Some s)) (after : ℕ) (takes : left ≡ after + given q) where
-      pub so_more : SoFar whole (xs ++ (make s ∷ [])) new after
+    module _ {x : Found} (e : q ≡ Ok (Some x)) (after : ℕ) (takes : left ≡ after + given q) where
+      pub so_more : SoFar whole (xs ++ (make x.site ∷ [])) new after
       unfolding came
       so_more = record {
         room = simp length-append (omega (arith, so.room, rw e at takes));
-        goes_on = so.goes_on ∙ rw (step, e) (before_first xs s new);
+        goes_on = so.goes_on ∙ rw (step, e) (before_first xs x.site new);
       }
 
 -- the numbers of what is made are those of the file

@@ -17,13 +17,13 @@ use Rattle.field.specs.Field.{values, value, entry_bytes, entries_bytes}
 use Rattle.field.proofs.EntryLaws.{length_entries}
 
 -- another tag has no bytes
-pub no_value : (k : RecordKind) (t : ℕ) (s : Site) → (t < 17 → t ≡ 0) → value k t s ≡ []
+pub no_value : (k : RecordKind) (t : ℕ) (s : Site) → (t < 18 → t ≡ 0) → value k t s ≡ []
 unfolding value
 no_value k t s h =
     ⊎_elim
-    (λ (past : 17 ≤ t). get_or-eq_default (values k s) [] {n = t} past)
-    (λ (below : t < 17). rw (h below))
-    (le_or_lt 17 t)
+    (λ (past : 18 ≤ t). get_or-eq_default (values k s) [] {n = t} past)
+    (λ (below : t < 18). rw (h below))
+    (le_or_lt 18 t)
 
 module _ (k : RecordKind) where
   entries_join : (es fs : List Entry) → entries_bytes k (es ++ fs) ≡ entries_bytes k es ++ entries_bytes k fs

@@ -1,5 +1,5 @@
 -- The first fault from the left: all that stands before it is accepted.
-use Rattle.std.specs.Prelude.{ℕ, ◌+◌, ◌<◌, Bool, ◌≡◌, ◌⊎◌, List, [], ◌∷◌, ◌++◌, length, Result, Ok, Err}
+use Rattle.std.specs.Prelude.{ℕ, ◌+◌, ◌-◌, ◌<◌, Bool, ◌≡◌, ◌⊎◌, List, [], ◌∷◌, ◌++◌, length, get_or, Result, Ok, Err}
 use Rattle.site.specs.Refusal.{and_then}
 use Rattle.site.specs.declared.Refusal.{Refusal}
 use Rattle.site.specs.declared.Rule.{Rule}
@@ -7,7 +7,12 @@ use Rattle.site.specs.declared.Rule.TheVariants.{NoBytes, InnerTag, TooMany}
 use Rattle.field.specs.Kind.{Kind, field_rule}
 use Rattle.record.specs.FieldParts.{stated_len, value_at, rest_at}
 use Rattle.record.specs.Fields.{head_rule}
+use Rattle.site.specs.declared.Site.{Site}
+use Rattle.site.specs.declared.RecordKind.TheVariants.{Tag55}
+use Rattle.loads.specs.SiteTerms.{terms_of}
+use Rattle.loads.specs.MaxS.{load_rule}
 use Rattle.record.specs.Records.{outer_rule}
+use Rattle.record.specs.Outer.{fields_at, dioxide_length}
 
 -- the fields ts, each accepted, lead from the value x and the bytes bs at an offset to the value y and the bytes cs at another
 pub data FieldsAccepted {A : Type 0} (K : Kind A) : A → List ℕ → ℕ → List ℕ → A → List ℕ → ℕ → Type 0 where
@@ -47,6 +52,19 @@ pub record OuterBroken (known : ℕ → Bool) (bs : List ℕ) (start : ℕ) (r :
 pub record InnerBroken {A : Type 0} (known : ℕ → Bool) (K : Kind A) (bs : List ℕ) (start : ℕ) (r : Refusal) : Type 0 where
   pub outer : outer_rule known bs ≡ Ok tt
   pub inner : FirstField K K.due K.blank (value_at bs) (start + 3) r
+
+-- its fields are all accepted, none but those of its kind, and lead from `start` to `next`; but rule 21 is broken, at the first byte of field 11, which ends it
+pub record LoadBroken (list f : List ℕ) (start : ℕ) (r : Refusal) : Type 0 where
+  pub site : Site
+  pub next : ℕ
+  pub accepted : fields_at list f start ≡ Ok (site, next)
+  pub broken : load_rule (terms_of list site) ≡ Err r.rule
+  pub offset : r.at ≡ next - dioxide_length
+
+-- such a record is of kind 55, and at the offset stands the tag 11
+pub record LostAtField (f : List ℕ) (s : Site) (at : ℕ) : Type 0 where
+  pub kind : s.kind ≡ Tag55
+  pub tag : get_or f at 0 ≡ 17
 
 -- the records xs, each accepted, lead from one offset to another
 pub data RecordsAccepted {A : Type 0} (read : ℕ → Result (A × ℕ) Refusal) : ℕ → List A → ℕ → Type 0 where

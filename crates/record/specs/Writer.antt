@@ -1,10 +1,10 @@
 -- The bytes of a site's record, and what a write of them can break.
 use Rattle.std.specs.Prelude.{ℕ, ◌≡◌, List, [], length, Ok}
 use Rattle.site.specs.declared.RecordKind.{RecordKind}
-use Rattle.site.specs.declared.RecordKind.TheVariants.{Tag52, Tag53, Tag54}
+use Rattle.site.specs.declared.RecordKind.TheVariants.{Tag52, Tag53, Tag54, Tag55}
 use Rattle.site.specs.declared.Site.{Site}
 use Rattle.site.specs.Refusal.{Checked}
-use Rattle.site.specs.Check.{site_rule}
+use Rattle.loads.specs.Check.{site_rule}
 use Rattle.output.specs.Output.{output_rule}
 use Rattle.record.specs.Fields.{encode_as}
 use Rattle.field.specs.Field.{site_kind}
@@ -18,10 +18,11 @@ abbrev pub added_length : RecordKind → ℕ
 added_length Tag52 = 0
 added_length Tag53 = 4
 added_length Tag54 = 4
+added_length Tag55 = 9
 
--- the greatest length of a record that is written: that of kind 54 with a name of 8 bytes and 4 entries
+-- the greatest length of a record that is written: that of kind 55 with a name of 8 bytes and 4 entries
 abbrev pub most_site_record : ℕ
-most_site_record = 104
+most_site_record = 109
 
 -- all that a write can break, 11 last
 abbrev pub write_rule : List ℕ → Site → ℕ → Checked

@@ -1,8 +1,11 @@
 // A record of a file, and the file of at most one record.
-ghost use Rattle.std.specs.Prelude.{◌≡◌, ◌-◌, ◌≤◌, get_or, length, take, drop, IfOk};
+ghost use Rattle.std.specs.Prelude.{◌≡◌, ◌-◌, ◌≤◌, get_or, length, take, drop, IfOk, MatchResult, Ok, Err};
+ghost use Rattle.loads.specs.SiteTerms.{terms_of};
+ghost use Rattle.loads.specs.MaxS.{load_rule};
+ghost use Rattle.loads.specs.CriticalLoads.{loads_of};
 ghost use Rattle.site.specs.Kinds.{kind_by};
 ghost use Rattle.site.specs.Refusal.{and_then};
-ghost use Rattle.record.specs.Outer.{site_tag, site_at, record_at, read_record};
+ghost use Rattle.record.specs.Outer.{site_tag, site_at, record_at, read_record, dioxide_length};
 ghost use Rattle.record.specs.File.{contents_by};
 ghost use Rattle.record.specs.Records.{outer_rule};
 ghost use Rattle.record.specs.Result.{result_numbers};
@@ -11,7 +14,8 @@ ghost use Rattle.record.specs.Writer.{WritesAgain};
 use crate::Found;
 use crate::bytes::stated_len;
 use crate::inner::read_fields;
-use site::{RecordKind, Refusal, Rule, Site, SpeciesList};
+use loads::{Loads, PassedSite};
+use site::{CheckedFields, RecordKind, Refusal, Rule, Site, SpeciesList};
 
 // Rules 2 and 3 at the bytes that are left, and the kind of the record there.
 #[tactic(auto, unfolding(crate::specs::Records::outer_rule, crate::specs::Outer::site_tag, site::specs::Refusal::and_then))]
@@ -40,6 +44,17 @@ fn bytes_from(file: &[u8], at: usize) -> &[u8]
     file.get(at..).unwrap_or(&[])
 }
 
+// Rule 21 of a site whose fields were read from a record that ends at `next`, at field 11, the last; and the loads that it works out.
+#[tactic(auto, using(loads::proofs::CheckLaws::fields_then))]
+fn check_load(fields: CheckedFields<'_>, next: usize) -> Result<Loads, Refusal>
+    ensures { let t = terms_of fields.entry.list.bytes.now fields.entry.site in MatchResult result (λ l. (load_rule t ≡ Ok tt) × (l ≡ loads_of t)) (λ refusal. (load_rule t ≡ Err refusal.rule) × (refusal.at ≡ next - dioxide_length)) }
+{
+    // with no carbon dioxide the rule is never broken, and a record that has it is longer than its last field
+    let at = next.saturating_sub(5);
+    let passed = PassedSite::of(fields).map_err(|rule| Refusal { rule, at })?;
+    Ok(passed.loads)
+}
+
 // The record whose outer field starts at `at`. Where no byte is left there, that is an outer field under 3 bytes.
 #[tactic(auto, using(crate::proofs::OuterLaws::kind_fits))]
 pub fn read_at(file: &[u8], at: usize, list: SpeciesList<'_>) -> Result<Found, Refusal>
@@ -53,7 +68,8 @@ pub fn read_at(file: &[u8], at: usize, list: SpeciesList<'_>) -> Result<Found, R
     let end = 3 + stated_len(rest);
     let site = read_fields(kind, &rest[3..end], at + 3, list)?;
     let next = at + end;
-    Ok(Found { site, next })
+    let loads = check_load(CheckedFields { site, list }, next)?;
+    Ok(Found { site, loads, next })
 }
 
 // The single record of a file of at most one.
@@ -65,7 +81,7 @@ pub fn read_record(file: &[u8], list: SpeciesList<'_>) -> Result<Site, Refusal>
     if file.is_empty() {
         return Err(Rule::NoBytes.into());
     }
-    let Found { site, next } = read_at(file, 0, list)?;
+    let Found { site, next, .. } = read_at(file, 0, list)?;
     if next != file.len() {
         return Err(Refusal {
             rule: Rule::TooMany,

@@ -1,6 +1,8 @@
 // The walk over a file: a record at a time, or all of them.
 ghost use Rattle.std.specs.Prelude.{◌≡◌, ◌+◌, IfOk, IfSome, Ok, Err, MatchResult};
-ghost use Rattle.site.specs.Check.{site_rule};
+ghost use Rattle.loads.specs.SiteTerms.{terms_of};
+ghost use Rattle.loads.specs.CriticalLoads.{loads_of};
+ghost use Rattle.loads.specs.Check.{site_rule};
 ghost use Rattle.record.specs.File.{contents};
 ghost use Rattle.record.specs.Result.{result_numbers};
 ghost use Rattle.record.specs.Unread.{step_of, after_step, file_in, list_in, may_come, next_at, unread, came, given};
@@ -41,12 +43,12 @@ impl<'a> Records<'a> {
     // The next record, or none at the end of the file. Kept a function of its own: written into the walk over a file it has the program's rows laid out once more
     // on the stack.
     #[inline(never)]
-    pub fn next(&mut self) -> Result<Option<Site>, Refusal>
+    pub fn next(&mut self) -> Result<Option<Found>, Refusal>
         ensures answer { result ≡ step_of (list_in self.old) (file_in self.old) (may_come self.old) (next_at self.old) }
         ensures after { (may_come self.new, next_at self.new) ≡ after_step (list_in self.old) (file_in self.old) (may_come self.old) (next_at self.old) }
         ensures file { (file_in self.new ≡ file_in self.old) × (list_in self.new ≡ list_in self.old) }
         ensures walk { (unread self.old ≡ came result (unread self.new)) × (may_come self.old ≡ may_come self.new + given result) }
-        ensures passes { IfOk result (λ next. IfSome next (λ site. site_rule (list_in self.old) site ≡ Ok tt)) }
+        ensures passes { IfOk result (λ next. IfSome next (λ found. (site_rule (list_in self.old) found.site ≡ Ok tt) × (found.loads ≡ loads_of (terms_of (list_in self.old) found.site)))) }
     {
         if self.file.len() <= self.at {
             return Ok(None);
@@ -55,10 +57,10 @@ impl<'a> Records<'a> {
             let rule = Rule::TooMany;
             return Err(Refusal { rule, at: self.at });
         }
-        let Found { site, next } = read_at(self.file, self.at, self.list)?;
-        self.at = next;
+        let found = read_at(self.file, self.at, self.list)?;
+        self.at = found.next;
         self.left -= 1;
-        Ok(Some(site))
+        Ok(Some(found))
     }
 }
 
@@ -69,8 +71,8 @@ pub fn read_sites(file: &[u8], list: SpeciesList<'_>) -> Result<ArrayVec<Site, 5
 {
     let mut records = Records::of(file, list)?;
     let mut sites = ArrayVec::new();
-    while let Some(site) = records.next()? {
-        sites.push(site);
+    while let Some(found) = records.next()? {
+        sites.push(found.site);
     }
     Ok(sites)
 }

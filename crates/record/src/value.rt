@@ -70,6 +70,7 @@ pub fn value_of(site: Site, tag: u8) -> ArrayVec<u8, 20>
             of(&[a, b, c, d])
         }
         16 => of(&[site.temperature]),
+        17 => of(&site.dioxide.to_be_bytes()),
         // another tag has no bytes
         _ => of(&[]),
     }

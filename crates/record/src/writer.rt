@@ -7,7 +7,8 @@ ghost use Rattle.field.specs.Clean.{clean};
 ghost use Rattle.record.specs.Writer.{encode, most_site_record, write_rule, added_length};
 
 use crate::put::{put_fields, put_head};
-use site::{RecordKind, Refusal, Rule, Site, SpeciesList, check_site};
+use loads::check_site;
+use site::{RecordKind, Refusal, Rule, Site, SpeciesList};
 
 // The bytes of the fields after 0F.
 fn added_length(kind: RecordKind) -> usize
@@ -18,6 +19,8 @@ fn added_length(kind: RecordKind) -> usize
         // head and temperature
         RecordKind::Tag53 => 3 + 1,
         RecordKind::Tag54 => 3 + 1,
+        // and head and carbon dioxide
+        RecordKind::Tag55 => 3 + 1 + 3 + 2,
     }
 }
 

@@ -6,9 +6,10 @@ use mathlib.Core.Logic.{◌⊎◌, inl, inr}
 use lib.ListN.{length}
 use native.Mathlib.Omega.{arith}
 use Rattle.std.specs.Prelude.{Result, Ok, Err}
-use Rattle.site.specs.Check.{fields_rule, site_rule}
+use Rattle.site.specs.Check.{fields_rule, due_rule}
+use Rattle.loads.specs.Check.{site_rule}
 use Rattle.site.specs.Refusal.{values_if, Checked, and_then, unless}
-use Rattle.site.specs.Kinds.{due, counted_temperature}
+use Rattle.site.specs.Kinds.{due, counted_temperature, counted_dioxide}
 use Rattle.site.specs.Values.{item_count, count_rule, value_rule}
 use Rattle.site.specs.declared.Site.{Site}
 use Rattle.site.specs.declared.RecordKind.{RecordKind}
@@ -35,13 +36,17 @@ module _ (list : List ℕ) (s : Site) (p : Pair) where
   fields_same k [] = refl
   fields_same k (t ∷ ts) = ap (and_then (and_then (count_rule t s) (value_rule list k t s))) (fields_same k ts)
 
-  pub pair_rule : site_rule list (with_pair s p) ≡ site_rule list s
-  unfolding with_pair site_rule
-  pair_rule = fields_same s.kind (due s.kind)
-
   pub pair_terms : terms_of list (with_pair s p) ≡ terms_of list s
-  unfolding with_pair counted_temperature
-  pair_terms = terms_same list (with_pair s p) s (one_with s s.kind s.name p.sulphur p.nitrogen s.temperature refl)
+  unfolding with_pair counted_temperature counted_dioxide
+  pair_terms = terms_same list (with_pair s p) s (one_with s s.kind s.name p.sulphur p.nitrogen s.temperature s.dioxide refl refl)
+
+  due_same : due_rule list (with_pair s p) ≡ due_rule list s
+  unfolding with_pair due_rule
+  due_same = fields_same s.kind (due s.kind)
+
+  pub pair_rule : site_rule list (with_pair s p) ≡ site_rule list s
+  unfolding site_rule
+  pair_rule = rw (due_same, pair_terms)
 
   abbrev keyed_answer : Result Sampled Refusal
   keyed_answer = keyed p (judgement_answer list (with_pair s p))

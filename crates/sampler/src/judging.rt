@@ -1,6 +1,6 @@
 // The pair of the sampler's months, judged as when entered by key.
 ghost use Rattle.std.specs.Prelude.{◌≡◌};
-ghost use Rattle.site.specs.Check.{site_rule};
+ghost use Rattle.loads.specs.Check.{site_rule};
 ghost use Rattle.site.specs.Refusal.{values_if, unless};
 ghost use Rattle.loads.specs.SiteTerms.{terms_of};
 ghost use Rattle.judgement.specs.Answers.{judgement_answer};
@@ -12,7 +12,8 @@ ghost use Rattle.sampler.specs.SampleAnswers.{with_pair, keyed, sample_answer, B
 use crate::years::year_pair;
 use crate::{Month, Pair, Sampled};
 use judgement::judge;
-use site::{Refusal, Site, SpeciesList, check_site};
+use loads::check_site;
+use site::{Refusal, Site, SpeciesList};
 
 // The site with the pair put into its field 0F.
 #[tactic(auto, unfolding(crate::specs::SampleAnswers::with_pair))]

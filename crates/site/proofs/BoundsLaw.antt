@@ -15,11 +15,11 @@ use Rattle.site.specs.declared.Rule.TheVariants.{OutOfRange, NotRising, SharesNo
 use Rattle.std.specs.Prelude.{Ok}
 use Rattle.std.specs.List.{list_all}
 use Rattle.site.specs.Bounds.{no_entry, EntryBounds, StandBounds, Bounds}
-use Rattle.site.specs.Check.{site_rule}
-use Rattle.site.specs.Ranges.{parent_range, depth_range, percolation_range, share_range, share_sum, most_yield, immobilisation_range, available_range, base_deposition_range, ratio_range, gibbsite_range, ceiling_range, leachate_range, temperature_range}
+use Rattle.site.specs.Check.{due_rule}
+use Rattle.site.specs.Ranges.{parent_range, depth_range, percolation_range, share_range, share_sum, most_yield, immobilisation_range, available_range, base_deposition_range, ratio_range, gibbsite_range, ceiling_range, leachate_range, temperature_range, dioxide_range}
 use Rattle.site.specs.declared.RecordKind.{RecordKind}
-use Rattle.site.specs.declared.RecordKind.TheVariants.{Tag52, Tag53, Tag54}
-use Rattle.site.specs.Kinds.{due, counted_temperature}
+use Rattle.site.specs.declared.RecordKind.TheVariants.{Tag52, Tag53, Tag54, Tag55}
+use Rattle.site.specs.Kinds.{due, counted_temperature, counted_dioxide}
 use Rattle.site.specs.Values.{count_rule, item_count, value_rule, stand_rule, composition_rule, entries_rule, known_rule, species_ranged, entry_ranged, rising_from, shares_of, inside}
 use Rattle.site.proofs.Tests.{le_or_lt, and_l, and_r}
 use Rattle.site.proofs.Passing.{pass_then, both_passed, inside_both, between_passed}
@@ -78,7 +78,7 @@ share_bound list k s v =
     (λ (whole : shares_of es ≡ share_sum). omega arith)
     (whole_shares es (pass_then (list_all (entry_ranged k) es) OutOfRange _ (both_passed (entries_rule k es) (known_rule list es) v).0).1)
 
-module _ (list : List ℕ) (s : Site) (e : site_rule list s ≡ Ok tt) where
+module _ (list : List ℕ) (s : Site) (e : due_rule list s ≡ Ok tt) where
   value_at_lem : (t : ℕ) → 1 ≤ t → t ≤ 15 → value_rule list s.kind t s ≡ Ok tt
   value_at_lem t some most = (site_passed list s e t some most).1
 
@@ -89,16 +89,27 @@ module _ (list : List ℕ) (s : Site) (e : site_rule list s ≡ Ok tt) where
       let es = take s.stand.count s.stand.entries in
       (pass_then (list_all (entry_ranged s.kind) es) OutOfRange _ (both_passed (entries_rule s.kind es) (known_rule list es) (value_at_lem 7 (omega arith) (omega arith))).0).0
 
+  temperature_in : 16 ≤ length (due s.kind) → s.temperature ≤ temperature_range.most
+  unfolding value_rule
+  temperature_in due = (between_passed temperature_range s.temperature (due_passed list s e 16 (omega arith) due).1).1
+
   -- the temperature that counts: the field's, or that of 8 °C
   temperature_bound : (k : RecordKind) → s.kind ≡ k → counted_temperature s ≤ temperature_range.most
   unfolding value_rule counted_temperature
   temperature_bound Tag52 is = rw is (omega arith)
-  temperature_bound Tag53 is =
-      let due : 16 ≤ length (due s.kind) = rw is (omega arith) in
-      rw is (between_passed temperature_range s.temperature (due_passed list s e 16 (omega arith) due).1).1
-  temperature_bound Tag54 is =
-      let due : 16 ≤ length (due s.kind) = rw is (omega arith) in
-      rw is (between_passed temperature_range s.temperature (due_passed list s e 16 (omega arith) due).1).1
+  temperature_bound Tag53 is = rw is (temperature_in (rw is (omega arith)))
+  temperature_bound Tag54 is = rw is (temperature_in (rw is (omega arith)))
+  temperature_bound Tag55 is = rw is (temperature_in (rw is (omega arith)))
+
+  -- the carbon dioxide that counts: the field's, or 0
+  dioxide_bound : (k : RecordKind) → s.kind ≡ k → counted_dioxide s ≤ dioxide_range.most
+  unfolding value_rule counted_dioxide
+  dioxide_bound Tag52 is = rw is (omega arith)
+  dioxide_bound Tag53 is = rw is (omega arith)
+  dioxide_bound Tag54 is = rw is (omega arith)
+  dioxide_bound Tag55 is =
+      let due : 17 ≤ length (due s.kind) = rw is (omega arith) in
+      rw is (between_passed dioxide_range s.dioxide (due_passed list s e 17 (omega arith) due).1).1
 
   pub bounds : Bounds s
   unfolding value_rule
@@ -113,7 +124,9 @@ module _ (list : List ℕ) (s : Site) (e : site_rule list s ≡ Ok tt) where
     deposition = (between_passed base_deposition_range s.base_deposition (value_at_lem 10 (omega arith) (omega arith))).1;
     ratio = (between_passed ratio_range s.ratio (value_at_lem 11 (omega arith) (omega arith))).0;
     gibbsite = (between_passed gibbsite_range s.gibbsite (value_at_lem 12 (omega arith) (omega arith))).1;
+    ceiling_least = (between_passed ceiling_range s.ceiling (value_at_lem 13 (omega arith) (omega arith))).0;
     ceiling = (between_passed ceiling_range s.ceiling (value_at_lem 13 (omega arith) (omega arith))).1;
     leachate = (between_passed leachate_range s.leachate (value_at_lem 14 (omega arith) (omega arith))).1;
     temperature = temperature_bound s.kind refl;
+    dioxide = dioxide_bound s.kind refl;
   }

@@ -12,7 +12,7 @@ use Rattle.std.specs.Prelude.{Ok}
 use Rattle.site.specs.Kinds.{due}
 use Rattle.site.specs.Values.{count_rule, value_rule}
 use Rattle.site.proofs.Tags.{tags_from, tags_more, tags_none, due_tags, first_fifteen}
-use Rattle.site.specs.Check.{fields_rule, site_rule}
+use Rattle.site.specs.Check.{fields_rule, due_rule}
 use Rattle.site.proofs.Tests.{le_or_lt}
 use Rattle.site.proofs.Passing.{both_passed}
 
@@ -29,24 +29,24 @@ field_passed list k last i t (suc n) d h l s e =
     field_passed list k last (i + 1) t n (omega arith) (omega arith) l s p.1
 
 -- a site that passes, passes rules 7 to 10 and 16 in every field of its kind
-pub due_passed : (list : List ℕ) (s : Site) → site_rule list s ≡ Ok tt → (t : ℕ) → 1 ≤ t → t ≤ length (due s.kind)
+pub due_passed : (list : List ℕ) (s : Site) → due_rule list s ≡ Ok tt → (t : ℕ) → 1 ≤ t → t ≤ length (due s.kind)
     → (count_rule t s ≡ Ok tt) × (value_rule list s.kind t s ≡ Ok tt)
-unfolding site_rule
+unfolding due_rule
 due_passed list s e t some most = field_passed list s.kind (length (due s.kind)) 1 t (t - 1) refl some most s (rw (due_tags s.kind) at e)
 
 -- so in each of 01 to 0F
-pub site_passed : (list : List ℕ) (s : Site) → site_rule list s ≡ Ok tt → (t : ℕ) → 1 ≤ t → t ≤ 15
+pub site_passed : (list : List ℕ) (s : Site) → due_rule list s ≡ Ok tt → (t : ℕ) → 1 ≤ t → t ≤ 15
     → (count_rule t s ≡ Ok tt) × (value_rule list s.kind t s ≡ Ok tt)
 site_passed list s e t some most = due_passed list s e t some (omega (arith, first_fifteen s.kind))
 
 -- no rule for a tag that no kind has
-pub value_none : (list : List ℕ) (k : RecordKind) (t : ℕ) (s : Site) → (t < 17 → t ≡ 0) → value_rule list k t s ≡ Ok tt
+pub value_none : (list : List ℕ) (k : RecordKind) (t : ℕ) (s : Site) → (t < 18 → t ≡ 0) → value_rule list k t s ≡ Ok tt
 unfolding value_rule
 value_none list k t s h =
     ⊎_elim
-    (λ (past : 17 ≤ t). rw get_or-eq_default)
+    (λ (past : 18 ≤ t). rw get_or-eq_default)
     (λ below. rw (h below))
-    (le_or_lt 17 t)
+    (le_or_lt 18 t)
 
 -- the fields from the tag t on: this one, then those after it
 pub fields_next : (list : List ℕ) (k : RecordKind) (last t : ℕ) (s : Site) → t ≤ last
@@ -55,8 +55,8 @@ unfolding fields_rule
 fields_next list k last t s h = rw (tags_more last t h)
 
 -- all the fields
-pub fields_all : (list : List ℕ) (s : Site) → site_rule list s ≡ fields_rule list s.kind (tags_from (length (due s.kind)) 1) s
-unfolding site_rule
+pub fields_all : (list : List ℕ) (s : Site) → due_rule list s ≡ fields_rule list s.kind (tags_from (length (due s.kind)) 1) s
+unfolding due_rule
 fields_all list s = ap (λ ts. fields_rule list s.kind ts s) (due_tags s.kind)
 
 pub fields_passed : (list : List ℕ) (k : RecordKind) (last t : ℕ) (s : Site) → t ≤ last → and_then (count_rule t s) (value_rule list k t s) ≡ Ok tt

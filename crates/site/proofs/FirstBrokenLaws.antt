@@ -11,7 +11,7 @@ use Rattle.site.specs.Refusal.{Checked, and_then}
 use Rattle.std.specs.Prelude.{Ok, Err}
 use Rattle.site.specs.Kinds.{due}
 use Rattle.site.specs.Values.{count_rule, value_rule}
-use Rattle.site.specs.Check.{fields_rule, site_rule, FirstBroken}
+use Rattle.site.specs.Check.{fields_rule, due_rule, FirstBroken}
 use Rattle.site.proofs.Passing.{both_passed}
 
 module _ (list : List ℕ) (k : RecordKind) where
@@ -39,6 +39,6 @@ module _ (list : List ℕ) (k : RecordKind) where
       by_field again (Err x) q e = record { before = []; tag = t; later = ts; order = refl; passed = λ i h. absurd (omega arith); broken = q ∙ e }
       by_field again (Ok tt) q e = later_broken t ts s r q (again e)
 
-pub site_first_broken : (list : List ℕ) (s : Site) (r : Rule) → site_rule list s ≡ Err r → FirstBroken list s.kind (due s.kind) s r
-unfolding site_rule
+pub site_first_broken : (list : List ℕ) (s : Site) (r : Rule) → due_rule list s ≡ Err r → FirstBroken list s.kind (due s.kind) s r
+unfolding due_rule
 site_first_broken list s r e = first_broken list s.kind (due s.kind) s r e

@@ -10,7 +10,7 @@ use borrow.Author.Tests.{leb-true, le-leb, lt-leb, eqb-true, eq-eqb}
 use Rattle.std.specs.List.{list_all}
 use Rattle.site.specs.declared.Site.{Site}
 use Rattle.site.specs.declared.RecordKind.{RecordKind}
-use Rattle.site.specs.declared.RecordKind.TheVariants.{Tag52, Tag53, Tag54}
+use Rattle.site.specs.declared.RecordKind.TheVariants.{Tag52, Tag53, Tag54, Tag55}
 use Rattle.site.specs.declared.length.Items.{Items}
 use Rattle.site.specs.declared.Rule.TheVariants.{BadLength}
 use Rattle.std.specs.Prelude.{Ok}
@@ -30,6 +30,7 @@ width_positive k t = leb-true 1 (items_of k t).width (by_kind k)
     by_kind Tag52 = row Tag52 (λ i. leb 1 i.width) refl refl t
     by_kind Tag53 = row Tag53 (λ i. leb 1 i.width) refl refl t
     by_kind Tag54 = row Tag54 (λ i. leb 1 i.width) refl refl t
+    by_kind Tag55 = row Tag55 (λ i. leb 1 i.width) refl refl t
 
 pub longest : (k : RecordKind) (t : ℕ) → (items_of k t).width * (items_of k t).most ≤ 20
 longest k t = leb-true ((items_of k t).width * (items_of k t).most) 20 (by_kind k)
@@ -38,6 +39,7 @@ longest k t = leb-true ((items_of k t).width * (items_of k t).most) 20 (by_kind 
     by_kind Tag52 = row Tag52 (λ i. leb (i.width * i.most) 20) refl refl t
     by_kind Tag53 = row Tag53 (λ i. leb (i.width * i.most) 20) refl refl t
     by_kind Tag54 = row Tag54 (λ i. leb (i.width * i.most) 20) refl refl t
+    by_kind Tag55 = row Tag55 (λ i. leb (i.width * i.most) 20) refl refl t
 
 module _ (k : RecordKind) (t n : ℕ) where
   pub permitted_fewer : n < (items_of k t).width * (items_of k t).least → length_permitted k t n ≡ false
@@ -88,25 +90,25 @@ pub parts_counted : (t : ℕ) (s : Site) → (items_of s.kind t).least ≤ item_
 unfolding count_rule
 parts_counted t s some most = rw (le-leb _ _ some, le-leb _ _ most)
 
--- a tag that is none of 1 to 16 has no items
-pub no_items_lem : (k : RecordKind) (t : ℕ) → (t < 17 → t ≡ 0) → items_of k t ≡ no_items
-no_items_lem k t h = ⊎_elim (λ (past : 17 ≤ t). rw get_or-eq_default) (λ below. rw (h below)) (le_or_lt 17 t)
+-- a tag that is none of 1 to 17 has no items
+pub no_items_lem : (k : RecordKind) (t : ℕ) → (t < 18 → t ≡ 0) → items_of k t ≡ no_items
+no_items_lem k t h = ⊎_elim (λ (past : 18 ≤ t). rw get_or-eq_default) (λ below. rw (h below)) (le_or_lt 18 t)
 
 -- so it has no permitted length
-no_tag_permitted : (k : RecordKind) (t n : ℕ) → (t < 17 → t ≡ 0) → length_permitted k t n ≡ true → ⊥
+no_tag_permitted : (k : RecordKind) (t n : ℕ) → (t < 18 → t ≡ 0) → length_permitted k t n ≡ true → ⊥
 no_tag_permitted k t n h e =
     let p = permitted_parts k t n e in
     let q : (1 * 1 ≤ n) × (n ≤ 1 * 0) × (n % 1 ≡ 0) = rw (no_items_lem k t h) at p in
     omega (arith, q.0, q.1)
 
--- a length is permitted for the tags 1 to 16 alone
-pub permitted_tag : (k : RecordKind) (t n : ℕ) → length_permitted k t n ≡ true → (1 ≤ t) × (t ≤ 16)
+-- a length is permitted for the tags 1 to 17 alone
+pub permitted_tag : (k : RecordKind) (t n : ℕ) → length_permitted k t n ≡ true → (1 ≤ t) × (t ≤ 17)
 permitted_tag k t n e =
     ⊎_elim
-    (λ (past : 17 ≤ t). absurd (no_tag_permitted k t n (λ h. absurd (omega arith)) e))
-    (λ (below : t < 17).
+    (λ (past : 18 ≤ t). absurd (no_tag_permitted k t n (λ h. absurd (omega arith)) e))
+    (λ (below : t < 18).
     ⊎_elim
     (λ (some : 1 ≤ t). (some, omega arith))
     (λ (none : t < 1). absurd (no_tag_permitted k t n (λ h. omega arith) e))
     (le_or_lt 1 t))
-    (le_or_lt 17 t)
+    (le_or_lt 18 t)

@@ -15,7 +15,7 @@ use Rattle.site.specs.declared.Entry.{Entry}
 use Rattle.site.specs.declared.RecordKind.{RecordKind}
 use Rattle.site.specs.declared.Site.{Site}
 use Rattle.site.specs.Values.{species_ranged, entry_ranged, inside, entries_rule, species_known, known_rule, stand_rule, value_rules, value_rule}
-use Rattle.site.specs.Check.{fields_rule, site_rule}
+use Rattle.site.specs.Check.{fields_rule, due_rule}
 use Rattle.site.proofs.Tests.{and_l, and_r}
 
 module _ (k : RecordKind) (narrow : two_byte_species k ≡ false) where
@@ -64,6 +64,6 @@ module _ (k : RecordKind) (narrow : two_byte_species k ≡ false) where
   fields_narrow list more [] s = refl
   fields_narrow list more (t ∷ ts) s = rw (value_narrow list more t s, fields_narrow list more ts s)
 
-pub narrow_site : (list more : List ℕ) (s : Site) → two_byte_species s.kind ≡ false → site_rule list s ≡ site_rule more s
-unfolding site_rule
+pub narrow_site : (list more : List ℕ) (s : Site) → two_byte_species s.kind ≡ false → due_rule list s ≡ due_rule more s
+unfolding due_rule
 narrow_site list more s narrow = fields_narrow s.kind narrow list more (due s.kind) s

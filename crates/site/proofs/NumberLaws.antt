@@ -7,7 +7,7 @@ use lib.Dec.{leb, eqb}
 use Rattle.site.specs.declared.Site.{Site}
 use Rattle.site.specs.declared.Entry.{Entry}
 use Rattle.site.specs.declared.RecordKind.{RecordKind}
-use Rattle.site.specs.declared.Rule.TheVariants.{NoBytes, OuterCut, OuterTag, TooMany, InnerCut, InnerTag, BadLength, OutOfRange, NotRising, SharesNotWhole, BufferShort, BadConcentration, NoReading, PairTooLarge, BadList, NotListed, NotConvertible}
+use Rattle.site.specs.declared.Rule.TheVariants.{NoBytes, OuterCut, OuterTag, TooMany, InnerCut, InnerTag, BadLength, OutOfRange, NotRising, SharesNotWhole, BufferShort, BadConcentration, NoReading, PairTooLarge, BadList, NotListed, NotConvertible, LoadBelowZero}
 use Rattle.site.specs.Refusal.{Checked, rule_number, checked_number, Numbered, passes, bad_length, out_of_range, not_rising, shares_not_whole, not_listed, and_then}
 use Rattle.std.specs.Prelude.{Ok, Err}
 use Rattle.std.specs.List.{list_all}
@@ -15,7 +15,7 @@ use Rattle.site.specs.Choice.{pick}
 use Rattle.site.specs.declared.ranges.Range.{Range}
 use Rattle.site.specs.Ranges.{share_sum}
 use Rattle.site.specs.Values.{items_of, item_count, count_rule, ranged, inside, between, entry_ranged, rising_from, shares_of, order_rule, composition_rule, entries_rule, species_known, known_rule, stand_rule, value_rules, value_rule}
-use Rattle.site.specs.Check.{fields_rule, site_rule}
+use Rattle.site.specs.Check.{fields_rule, due_rule}
 use Rattle.site.proofs.PartLaws.{all_get_d}
 
 -- no rule, or one of 7 to 10 and 16
@@ -43,6 +43,7 @@ number_of (Err PairTooLarge) e = absurd (false≢true e)
 number_of (Err BadList) e = absurd (false≢true e)
 number_of (Err NotListed) e = not_listed
 number_of (Err NotConvertible) e = absurd (false≢true e)
+number_of (Err LoadBelowZero) e = absurd (false≢true e)
 
 pub numbered : (a b : Checked) → a ≡ b → known b ≡ true → Numbered b (checked_number a)
 numbered a b e k = rw e (number_of b k)
@@ -102,6 +103,6 @@ unfolding fields_rule
 known_fields list k [] s = known_passed
 known_fields list k (t ∷ ts) s = known_then _ _ (known_then _ _ (known_count t s) (known_value list k t s)) (known_fields list k ts s)
 
-pub known_site : (list : List ℕ) (s : Site) → known (site_rule list s) ≡ true
-unfolding site_rule
+pub known_site : (list : List ℕ) (s : Site) → known (due_rule list s) ≡ true
+unfolding due_rule
 known_site list s = known_fields list s.kind _ s

@@ -6,7 +6,7 @@ use native.Mathlib.Omega.{arith}
 use lib.ListN.{length}
 use Rattle.std.specs.List.{range_with_len}
 use Rattle.site.specs.declared.RecordKind.{RecordKind}
-use Rattle.site.specs.declared.RecordKind.TheVariants.{Tag52, Tag53, Tag54}
+use Rattle.site.specs.declared.RecordKind.TheVariants.{Tag52, Tag53, Tag54, Tag55}
 use Rattle.site.specs.Kinds.{due}
 
 abbrev pub tags_from : (last t : ℕ) → List ℕ
@@ -23,9 +23,11 @@ pub due_tags : (k : RecordKind) → due k ≡ tags_from (length (due k)) 1
 due_tags Tag52 = refl
 due_tags Tag53 = refl
 due_tags Tag54 = refl
+due_tags Tag55 = refl
 
 -- and 01 to 0F are among them
 pub first_fifteen : (k : RecordKind) → 15 ≤ length (due k)
 first_fifteen Tag52 = omega arith
 first_fifteen Tag53 = omega arith
 first_fifteen Tag54 = omega arith
+first_fifteen Tag55 = omega arith

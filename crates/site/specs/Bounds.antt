@@ -1,9 +1,9 @@
--- What the calculation leans on at a site that passes the check: upper bounds of its values and of the sum of its shares (0 at a reserve), and the least ratio.
+-- What the calculation leans on at a site that passes the check: upper bounds of its values and of the sum of its shares (0 at a reserve), and the least ratio and ceiling.
 use Rattle.std.specs.Prelude.{ℕ, ◌≤◌, ◌<◌, List, get_or, take}
 use Rattle.site.specs.declared.Site.{Site}
 use Rattle.site.specs.declared.Entry.{Entry}
-use Rattle.site.specs.Ranges.{parent_range, depth_range, percolation_range, most_entries, share_range, share_sum, most_yield, immobilisation_range, available_range, base_deposition_range, ratio_range, gibbsite_range, ceiling_range, leachate_range, temperature_range}
-use Rattle.site.specs.Kinds.{counted_temperature}
+use Rattle.site.specs.Ranges.{parent_range, depth_range, percolation_range, most_entries, share_range, share_sum, most_yield, immobilisation_range, available_range, base_deposition_range, ratio_range, gibbsite_range, ceiling_range, leachate_range, temperature_range, dioxide_range}
+use Rattle.site.specs.Kinds.{counted_temperature, counted_dioxide}
 use Rattle.site.specs.Values.{shares_of}
 
 -- what stands past the end of a stand
@@ -30,6 +30,8 @@ pub record Bounds (s : Site) : Type 0 where
   pub deposition : s.base_deposition ≤ base_deposition_range.most
   pub ratio : ratio_range.least ≤ s.ratio
   pub gibbsite : s.gibbsite ≤ gibbsite_range.most
+  pub ceiling_least : ceiling_range.least ≤ s.ceiling
   pub ceiling : s.ceiling ≤ ceiling_range.most
   pub leachate : s.leachate ≤ leachate_range.most
   pub temperature : counted_temperature s ≤ temperature_range.most
+  pub dioxide : counted_dioxide s ≤ dioxide_range.most

@@ -1,4 +1,4 @@
--- The check of a site value with the list that is lent: rules 7 to 10 and 16, by the tags of its kind in order.
+-- The rules 7 to 10 and 16 of a site value with the list that is lent, by the tags of its kind in order. The whole check has rule 21 after them: `site_rule` in the crate `loads`.
 use Rattle.std.specs.Prelude.{ℕ, ◌<◌, ◌≡◌, List, [], ◌∷◌, ◌++◌, length, get_or, Ok, Err}
 use Rattle.site.specs.declared.Site.{Site}
 use Rattle.site.specs.declared.RecordKind.{RecordKind}
@@ -12,8 +12,8 @@ unfoldable pub fields_rule : List ℕ → RecordKind → List ℕ → Site → C
 fields_rule list k [] s = Ok tt
 fields_rule list k (t ∷ ts) s = and_then (and_then (count_rule t s) (value_rule list k t s)) (fields_rule list k ts s)
 
-unfoldable pub site_rule : List ℕ → Site → Checked
-site_rule list s = fields_rule list s.kind (due s.kind) s
+unfoldable pub due_rule : List ℕ → Site → Checked
+due_rule list s = fields_rule list s.kind (due s.kind) s
 
 -- the first field with a broken rule: each one before it passes, and its own first broken rule is r
 pub record FirstBroken (list : List ℕ) (k : RecordKind) (ts : List ℕ) (s : Site) (r : Rule) : Type 0 where

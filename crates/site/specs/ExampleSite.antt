@@ -25,6 +25,7 @@ a1 = record {
   sulphur = 500;
   nitrogen = 700;
   temperature = 13;
+  dioxide = 0;
 }
 
 abbrev pub a1_reserve : Site

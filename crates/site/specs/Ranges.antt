@@ -82,6 +82,10 @@ deposition_range = record { least = 0; most = 65535 }
 abbrev pub temperature_range : Range
 temperature_range = record { least = 0; most = 25 }
 
+-- 11 soil carbon dioxide P (document 02, E13), in units of 0.00001 atm
+abbrev pub dioxide_range : Range
+dioxide_range = record { least = 0; most = 5000 }
+
 -- "Record, file, listing": a file is 1 to 500 records
 abbrev pub most_records : ℕ
 most_records = 500

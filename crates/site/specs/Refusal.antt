@@ -2,7 +2,7 @@
 use Rattle.std.specs.Prelude.{ℕ, List, [], ◌∷◌, Result, Ok, Err}
 use Rattle.site.specs.declared.Rule.{Rule}
 use Rattle.site.specs.declared.Refusal.{Refusal}
-use Rattle.site.specs.declared.Rule.TheVariants.{NoBytes, OuterCut, OuterTag, TooMany, InnerCut, InnerTag, BadLength, OutOfRange, NotRising, SharesNotWhole, BufferShort, BadConcentration, NoReading, PairTooLarge, BadList, NotListed, NotConvertible}
+use Rattle.site.specs.declared.Rule.TheVariants.{NoBytes, OuterCut, OuterTag, TooMany, InnerCut, InnerTag, BadLength, OutOfRange, NotRising, SharesNotWhole, BufferShort, BadConcentration, NoReading, PairTooLarge, BadList, NotListed, NotConvertible, LoadBelowZero}
 
 abbrev pub rule_number : Rule → ℕ
 rule_number NoBytes = 1
@@ -22,6 +22,7 @@ rule_number PairTooLarge = 14
 rule_number BadList = 15
 rule_number NotListed = 16
 rule_number NotConvertible = 17
+rule_number LoadBelowZero = 21
 
 -- what a check says: it passes, or the rule that is broken
 abbrev pub Checked : Type 0
@@ -32,7 +33,7 @@ unfoldable pub checked_number : {A : Type 0} → Result A Rule → ℕ
 checked_number (Ok x) = 0
 checked_number (Err r) = rule_number r
 
--- the number of what the check of a site value or of a field says: 0, or 7 to 10, or 16; no other rule can come
+-- the number of what the rules of a field, or of all fields of a site, say: 0, or 7 to 10, or 16; no other rule can come
 pub data Numbered : Checked → ℕ → Type 0 where
   passes : Numbered (Ok tt) 0
   bad_length : Numbered (Err BadLength) 7

@@ -3,7 +3,7 @@ use Rattle.std.specs.List.{list_all}
 use Rattle.std.specs.Prelude.{ℕ, ◌+◌, ◌*◌, ◌%◌, Bool, true, ◌&&◌, ◌||◌, List, [], ◌∷◌, leb, eqb, get_or, take, Ok, Err}
 use Rattle.site.specs.Choice.{pick}
 use Rattle.site.specs.declared.ranges.Range.{Range}
-use Rattle.site.specs.Ranges.{most_name, parent_range, most_texture, depth_range, drainage_range, percolation_range, most_entries, most_species, listed_range, share_range, most_yield, share_sum, immobilisation_range, available_range, base_deposition_range, ratio_range, gibbsite_range, ceiling_range, leachate_range, temperature_range}
+use Rattle.site.specs.Ranges.{most_name, parent_range, most_texture, depth_range, drainage_range, percolation_range, most_entries, most_species, listed_range, share_range, most_yield, share_sum, immobilisation_range, available_range, base_deposition_range, ratio_range, gibbsite_range, ceiling_range, leachate_range, temperature_range, dioxide_range}
 use Rattle.site.specs.declared.Site.{Site}
 use Rattle.site.specs.declared.Entry.{Entry}
 use Rattle.site.specs.declared.length.Items.{Items}
@@ -44,6 +44,7 @@ field_items k =
     ∷ one_value 2  -- 0E leachate
     ∷ one_value 4  -- 0F deposition
     ∷ one_value 1  -- 10 temperature
+    ∷ one_value 2  -- 11 soil carbon dioxide
     ∷ []
 
 abbrev pub items_of : RecordKind → ℕ → Items
@@ -136,6 +137,7 @@ value_rules list k s =
     ∷ between leachate_range s.leachate  -- 0E
     ∷ Ok tt  -- 0F: the deposition's range is all that two bytes hold
     ∷ between temperature_range s.temperature  -- 10
+    ∷ between dioxide_range s.dioxide  -- 11
     ∷ []
 
 unfoldable pub value_rule : List ℕ → RecordKind → ℕ → Site → Checked

@@ -1,6 +1,6 @@
 // The check of a site value: rules 7 to 10 and 16 in the order of its kind's tags.
 ghost use Rattle.std.specs.Prelude.{◌≡◌};
-ghost use Rattle.site.specs.Check.{site_rule};
+ghost use Rattle.site.specs.Check.{due_rule};
 ghost use Rattle.site.specs.Refusal.{and_then, checked_number, Numbered};
 ghost use Rattle.site.specs.Values.{count_rule, value_rule};
 
@@ -16,10 +16,10 @@ fn check_field(site: &Site, tag: u8, list: SpeciesList<'_>) -> Result<(), Rule>
     value_rule(site, tag, list)
 }
 
-#[tactic(auto, using(crate::proofs::FieldLaws::fields_next, crate::proofs::NumberLaws::numbered, crate::proofs::NumberLaws::known_site), unfolding(crate::specs::Check::site_rule, crate::specs::Check::fields_rule, crate::specs::Refusal::and_then))]
-pub fn check_site(site: Site, list: SpeciesList<'_>) -> Result<(), Rule>
-    ensures answer { result ≡ site_rule list.entry.bytes.now site }
-    ensures number { Numbered (site_rule list.entry.bytes.now site) (checked_number result) }
+#[tactic(auto, using(crate::proofs::FieldLaws::fields_next, crate::proofs::NumberLaws::numbered, crate::proofs::NumberLaws::known_site), unfolding(crate::specs::Check::due_rule, crate::specs::Check::fields_rule, crate::specs::Refusal::and_then))]
+pub fn check_due(site: Site, list: SpeciesList<'_>) -> Result<(), Rule>
+    ensures answer { result ≡ due_rule list.entry.bytes.now site }
+    ensures number { Numbered (due_rule list.entry.bytes.now site) (checked_number result) }
 {
     for tag in 1..site.kind.end() {
         check_field(&site, tag, list)?;

@@ -1,6 +1,6 @@
 // What the kind of a record says: its outer tag, its fields, and what stands for those it lacks.
 ghost use Rattle.std.specs.Prelude.{◌≡◌, ◌+◌, length};
-ghost use Rattle.site.specs.Kinds.{kind_tag, kind_by, due, two_byte_species, entry_width, has_temperature, counted_temperature};
+ghost use Rattle.site.specs.Kinds.{kind_tag, kind_by, due, two_byte_species, entry_width, has_temperature, counted_temperature, has_dioxide, counted_dioxide};
 
 use crate::{RecordKind, Rule, Site};
 
@@ -23,6 +23,7 @@ impl RecordKind {
             RecordKind::Tag52 => 16,
             RecordKind::Tag53 => 17,
             RecordKind::Tag54 => 17,
+            RecordKind::Tag55 => 18,
         }
     }
 
@@ -34,6 +35,7 @@ impl RecordKind {
             RecordKind::Tag52 => false,
             RecordKind::Tag53 => false,
             RecordKind::Tag54 => true,
+            RecordKind::Tag55 => true,
         }
     }
 
@@ -50,6 +52,13 @@ impl RecordKind {
     {
         0x10 < self.end()
     }
+
+    // Whether it has the field 11.
+    pub fn has_dioxide(self) -> bool
+        ensures { result ≡ has_dioxide self }
+    {
+        0x11 < self.end()
+    }
 }
 
 // The kind of an outer tag, or rule 3.
@@ -63,6 +72,7 @@ impl TryFrom<u8> for RecordKind {
             0x52 => Ok(RecordKind::Tag52),
             0x53 => Ok(RecordKind::Tag53),
             0x54 => Ok(RecordKind::Tag54),
+            0x55 => Ok(RecordKind::Tag55),
             _ => Err(Rule::OuterTag),
         }
     }
@@ -78,6 +88,18 @@ impl Site {
             self.temperature
         } else {
             REFERENCE_TEMPERATURE
+        }
+    }
+
+    // The soil carbon dioxide P that counts: the site's own, and 0 where its kind has none.
+    #[tactic(auto, unfolding(crate::specs::Kinds::counted_dioxide))]
+    pub fn counted_dioxide(self) -> u16
+        ensures { result ≡ counted_dioxide self }
+    {
+        if self.kind.has_dioxide() {
+            self.dioxide
+        } else {
+            0
         }
     }
 }

@@ -50,6 +50,7 @@ fn items_of(kind: RecordKind, tag: u8) -> Items
         14 => Items::one_value(2),
         15 => Items::one_value(4),
         16 => Items::one_value(1),
+        17 => Items::one_value(2),
         // no such field, not even one of no bytes
         _ => Items::of(1, 1, 0),
     }

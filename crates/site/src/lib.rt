@@ -14,13 +14,13 @@ mod stands;
 mod value;
 
 pub use bytes::{entries_in, entry_at, name_in};
-pub use check::check_site;
+pub use check::check_due;
 pub use kinds::REFERENCE_TEMPERATURE;
 pub use length::length_permitted;
-pub use passed::PassedSite;
+pub use passed::CheckedFields;
 pub use ranges::{
-    AVAILABLE, BASE_DEPOSITION, CEILING, DEPTH, DRAINAGE, GIBBSITE, IMMOBILISATION, LEACHATE,
-    PARENT, PERCOLATION, RATIO, Range, TEMPERATURE, texture_rule,
+    AVAILABLE, BASE_DEPOSITION, CEILING, DEPTH, DIOXIDE, DRAINAGE, GIBBSITE, IMMOBILISATION,
+    LEACHATE, PARENT, PERCOLATION, RATIO, Range, TEMPERATURE, texture_rule,
 };
 pub use species_list::SpeciesList;
 pub use value::value_rule;
@@ -55,10 +55,11 @@ pub enum RecordKind {
     Tag52 = 0x52,
     Tag53 = 0x53,
     Tag54 = 0x54,
+    Tag55 = 0x55,
 }
 
 // The values of document 01, "The site's values", and of document 02, raw: every bad site can be held, and is refused by the check.
-// What its kind lacks is no part of a site: kind 52 has no temperature. Temperature byte 0 is −5 °C. `Default`, here and of the fields' types, is what
+// What its kind lacks is no part of a site: kind 52 has no temperature, and kind 55 alone has soil carbon dioxide. Temperature byte 0 is −5 °C. `Default`, here and of the fields' types, is what
 // `ArrayVec::new` fills its places with.
 #[derive(Clone, Copy, Default)]
 pub struct Site {
@@ -81,6 +82,7 @@ pub struct Site {
     pub sulphur: u16,
     pub nitrogen: u16,
     pub temperature: u8,
+    pub dioxide: u16,
 }
 
 // The refusals by number: 1 to 11 of document 01, "Where each check stands", then those of document 02.
@@ -103,6 +105,7 @@ pub enum Rule {
     BadList = 15,
     NotListed = 16,
     NotConvertible = 17,
+    LoadBelowZero = 21,
 }
 
 // The rule that is broken, and the offset of the fault.

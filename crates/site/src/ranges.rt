@@ -79,6 +79,11 @@ pub const LEACHATE: Range = Range {
 
 pub const TEMPERATURE: Range = Range { least: 0, most: 25 };
 
+pub const DIOXIDE: Range = Range {
+    least: 0,
+    most: 5000,
+};
+
 // Clay and sand have no range of their own, but their sum.
 pub fn texture_rule(clay: u8, sand: u8) -> Result<(), Rule>
     ensures { result ≡ ranged (leb (clay + sand) most_texture) }

@@ -3,8 +3,8 @@ ghost use Rattle.std.specs.Prelude.{◌≡◌};
 ghost use Rattle.site.specs.Values.{value_rule};
 
 use crate::ranges::{
-    AVAILABLE, BASE_DEPOSITION, CEILING, DEPTH, DRAINAGE, GIBBSITE, IMMOBILISATION, LEACHATE,
-    PARENT, PERCOLATION, RATIO, TEMPERATURE, texture_rule,
+    AVAILABLE, BASE_DEPOSITION, CEILING, DEPTH, DIOXIDE, DRAINAGE, GIBBSITE, IMMOBILISATION,
+    LEACHATE, PARENT, PERCOLATION, RATIO, TEMPERATURE, texture_rule,
 };
 use crate::{Rule, Site, SpeciesList};
 
@@ -30,6 +30,7 @@ pub fn value_rule(site: &Site, tag: u8, list: SpeciesList<'_>) -> Result<(), Rul
         // the deposition's range is all that two bytes hold
         15 => Ok(()),
         16 => TEMPERATURE.check(u16::from(site.temperature)),
+        17 => DIOXIDE.check(site.dioxide),
         _ => Ok(()),
     }
 }

@@ -5,7 +5,7 @@ use Rattle.site.specs.Kinds.{kind_by}
 use Rattle.site.specs.Refusal.{and_then}
 use Rattle.record.specs.Outer.{site_tag}
 use Rattle.record.specs.Records.{outer_rule}
-use Rattle.record.proofs.OuterLaws.{record_broken, record_refused, record_whole}
+use Rattle.record.proofs.OuterLaws.{fields_pass, record_broken, record_refused, record_lost, record_whole}
 use Rattle.record.proofs.Place.{found_answers}
 use Rattle.record.proofs.outer.read_at.Goals as goal
 
@@ -26,10 +26,26 @@ returns-in_err-site c =
     let e = record_refused _ _ _ _ c.bytes_from-rest.ensures.bytes k read _ (omega arith) _ (sym c.in_err-site.ensures) in
     found_answers _ _ _ _ (λ i. omega (arith, c.type_inv.file i)) (rw (p.1, p.2) e)
 
+pub invariant_of-check_load : goal.invariant_of-check_load
+invariant_of-check_load c =
+    let bs = c.bytes_from-rest.result.now in
+    let k = c.in_ok-kind.kind in
+    let read : and_then (outer_rule site_tag bs) (kind_by (get_or bs 0 0)) ≡ Ok k = search rules in
+    record { passed = fields_pass _ _ _ _ c.bytes_from-rest.ensures.bytes k read _ (omega arith) _ (sym c.in_ok-site.ensures) }
+
+pub returns-in_err-loads : goal.returns-in_err-loads
+returns-in_err-loads c =
+    let p = err_from_is_err_and c.from_residual-in_err-loads.result c.from_residual-in_err-loads.ensures.1 in
+    let bs = c.bytes_from-rest.result.now in
+    let k = c.in_ok-kind.kind in
+    let read : and_then (outer_rule site_tag bs) (kind_by (get_or bs 0 0)) ≡ Ok k = search rules in
+    found_answers _ _ _ _ (λ i. omega (arith, c.type_inv.file i))
+    (rw (p.1, p.2) (record_lost _ _ _ _ c.bytes_from-rest.ensures.bytes k read _ (omega arith) _ (sym c.in_ok-site.ensures) _ c.in_err-loads.ensures.0 c.in_err-loads.ensures.1))
+
 pub returns : goal.returns
 returns c =
     let bs = c.bytes_from-rest.result.now in
     let k = c.in_ok-kind.kind in
     let read : and_then (outer_rule site_tag bs) (kind_by (get_or bs 0 0)) ≡ Ok k = search rules in
     found_answers _ _ _ _ (λ i. omega (arith, c.type_inv.file i))
-    (record_whole _ _ _ _ c.bytes_from-rest.ensures.bytes k read _ (omega arith) _ (sym c.in_ok-site.ensures))
+    (rw c.in_ok-loads.ensures.1 (record_whole _ _ _ _ c.bytes_from-rest.ensures.bytes k read _ (omega arith) _ (sym c.in_ok-site.ensures) c.in_ok-loads.ensures.0))

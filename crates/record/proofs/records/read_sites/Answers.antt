@@ -10,22 +10,22 @@ returns-in_err-records c =
     let p = err_from_is_err_and c.from_residual.result c.from_residual.ensures.1 in
     rw (p.1, p.2) (record { answer = c.in_err-records.ensures.answer; numbers = rw c.in_err-records.ensures.answer })
 
-pub loop-site-init : goal.loop-site-init
-loop-site-init c = rw c.new-sites.ensures (so_start (λ s. s) c.in_ok-records.ensures.answer c.in_ok-records.ensures.start.0)
+pub loop-found-init : goal.loop-found-init
+loop-found-init c = rw c.new-sites.ensures (so_start (λ s. s) c.in_ok-records.ensures.answer c.in_ok-records.ensures.start.0)
 
-pub returns-in_err-site : goal.returns-in_err-site
+pub returns-in_err-found : goal.returns-in_err-found
 unfolding result_numbers
-returns-in_err-site c =
-    let p = err_from_is_err_and c.from_residual-in_err-site.result c.from_residual-in_err-site.ensures.1 in
-    let e = so_fault (λ s. s) c.loop-site.invariant c.next.result _ c.next.ensures.walk.0 c.in_err-site.was in
+returns-in_err-found c =
+    let p = err_from_is_err_and c.from_residual-in_err-found.result c.from_residual-in_err-found.ensures.1 in
+    let e = so_fault (λ s. s) c.loop-found.invariant c.next.result _ c.next.ensures.walk.0 c.in_err-found.was in
     rw (p.1, p.2) (record { answer = e; numbers = rw e })
 
-pub loop-site-preserved : goal.loop-site-preserved
-loop-site-preserved c =
-    rw c.push.ensures.items (so_more (λ s. s) c.loop-site.invariant c.next.result _ c.next.ensures.walk.0 (c.in_ok-site.was ∙ ap Ok c.in-Some.is) _ c.next.ensures.walk.1)
+pub loop-found-preserved : goal.loop-found-preserved
+loop-found-preserved c =
+    rw c.push.ensures.items (so_more (λ s. s) c.loop-found.invariant c.next.result _ c.next.ensures.walk.0 (c.in_ok-found.was ∙ ap Ok c.in-Some.is) _ c.next.ensures.walk.1)
 
 pub returns : goal.returns
 unfolding result_numbers
 returns c =
-    let e = sym (made_same _) ∙ so_end (λ s. s) c.loop-site.invariant c.next.result _ c.next.ensures.walk.0 (c.in_ok-site.was ∙ ap Ok c.in_default.is) in
+    let e = sym (made_same _) ∙ so_end (λ s. s) c.loop-found.invariant c.next.result _ c.next.ensures.walk.0 (c.in_ok-found.was ∙ ap Ok c.in_default.is) in
     record { answer = e; numbers = rw e }

@@ -4,8 +4,8 @@ use Rattle.record.specs.Unread.{unread, may_come}
 use Rattle.record.proofs.UnreadLaws.{SoFar}
 use Rattle.record.proofs.records.read_sites.Given as goal
 
-abbrev pub invariant-loop-site : goal.invariant-loop-site
-invariant-loop-site l = SoFar (λ s. s) (contents l.list.bytes.now l.file) l.sites.items (unread l.records) (may_come l.records)
+abbrev pub invariant-loop-found : goal.invariant-loop-found
+invariant-loop-found l = SoFar (λ s. s) (contents l.list.bytes.now l.file) l.sites.items (unread l.records) (may_come l.records)
 
-abbrev pub decreases-loop-site : goal.decreases-loop-site
-decreases-loop-site l = may_come l.records
+abbrev pub decreases-loop-found : goal.decreases-loop-found
+decreases-loop-found l = may_come l.records
