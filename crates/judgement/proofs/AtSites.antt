@@ -1,11 +1,14 @@
 -- Demand 3 and its consequences at a site that passes the check: the laws on terms, at the site's terms.
 use Prim.Native.Nat.{ℕ, ◌≤◌}
-use mathlib.Core.Path.{◌≡◌, refl, sym, ◌∙◌}
+use mathlib.Core.Path.{◌≡◌, refl}
 use mathlib.Core.Logic.{◌↔◌}
 use mathlib.Core.List.{List}
 use Rattle.loads.specs.Check.{site_rule}
 use Rattle.site.specs.declared.Site.{Site}
-use Rattle.std.specs.Prelude.{Ok}
+use Rattle.std.specs.Prelude.{Ok, Err}
+use Rattle.site.specs.declared.Rule.TheVariants.{LoadBelowZero}
+use Rattle.site.specs.Refusal.{Checked, and_then}
+use Rattle.site.specs.Check.{due_rule}
 use Rattle.site.proofs.BoundsLaw as Fields
 use Rattle.loads.proofs.CheckLaws.{bounds, passed_load, fields_then}
 use Rattle.loads.specs.Terms.{TermBounds}
@@ -16,14 +19,15 @@ use Rattle.site.specs.OneSite.{OneSite}
 use Rattle.loads.specs.MostTerms.{most_max_s}
 use Rattle.loads.proofs.SiteTermLaws.{term_bounds}
 use Rattle.loads.proofs.TermLaws.{cl_max_s_le}
+use Rattle.loads.proofs.MaxSLaws.{load_decided, load_negative, negative_load}
 use Rattle.loads.proofs.OneSiteLaws.{terms_same}
 use Rattle.judgement.specs.declared.Region.TheVariants.{AcidKept}
 use Rattle.judgement.specs.declared.Verdict.TheVariants.{Within}
 use Rattle.judgement.specs.Verdicts.{region, acid_exceedance, nutrient_exceedance, verdict, verdict_word, within, over}
-use Rattle.judgement.specs.Balance.{Closes, NoneCloses, Tells}
+use Rattle.judgement.specs.Balance.{Closes, RefusedBelowZero, Tells}
 use Rattle.judgement.specs.Less.{Stays, NeverWorse}
 use Rattle.judgement.proofs.Exceeding.{zero_iff}
-use Rattle.judgement.proofs.Demand3.{no_pair_closes, within_iff_closes, verdict_tells}
+use Rattle.judgement.proofs.Demand3.{zero_closes_acid, none_by_rule, within_iff_closes, verdict_tells}
 use Rattle.judgement.proofs.Monotone.{within_less, acid_less, nutrient_less}
 
 module _ (list : List ℕ) (s : Site) (passed : site_rule list s ≡ Ok tt) where
@@ -84,8 +88,24 @@ never_worse list s t p l =
     }
 
 -- a site whose fields pass is refused, by 21, exactly where no pair closes the acid balance
-pub none_closes_at : NoneCloses
-none_closes_at list s f =
-    let n = no_pair_closes (terms_of list s) (term_bounds list s (Fields.bounds list s f)) in
-    let same : site_rule list s ≡ load_rule (terms_of list s) = fields_then list s f in
-    record { refused = (λ e. n.none.0 (sym same ∙ e), λ none. same ∙ n.none.1 none); otherwise = λ p. n.some (sym same ∙ p) }
+module _ (list : List ℕ) (s : Site) (fields : due_rule list s ≡ Ok tt) where
+  t_bounds : TermBounds (terms_of list s)
+  t_bounds = term_bounds list s (Fields.bounds list s fields)
+
+  pub refused_below_zero : {A : Type 0} (x : A) → RefusedBelowZero list s (and_then (site_rule list s) (Ok x))
+  unfolding and_then
+  refused_below_zero x =
+      let by = none_by_rule (terms_of list s) t_bounds in
+      let same : site_rule list s ≡ load_rule (terms_of list s) = fields_then list s fields in
+      load_decided (terms_of list s)
+      (λ p.
+      rw (same, p)
+      (record {
+        negative = (λ e. cc, λ l. absurd (clash p (negative_load (terms_of list s) l)));
+        none = (λ e. cc, λ n. absurd (clash p (by.1 n)));
+        some = λ y e. zero_closes_acid (terms_of list s) t_bounds p;
+      }))
+      (λ b. rw (same, b) (record { negative = (λ e. load_negative (terms_of list s) b, λ l. refl); none = (λ e. by.0 b, λ n. refl); some = λ y e. cc }))
+    where
+      clash : {c : Checked} → c ≡ Ok tt → c ≡ Err LoadBelowZero → ⊥
+      clash p q = cc

@@ -17,7 +17,7 @@ use Rattle.loads.specs.MaxS.{signed_max_s, load_rule, cl_max_s}
 use Rattle.loads.specs.CriticalLoads.{cl_min_n}
 use Rattle.loads.proofs.TermLaws.{signed_sum, leaching_net, cl_max_s_is, cl_min_n_is, cl_nut_n_is, greatest_ceiling, greatest_least, greatest_limit, net_greatest, cl_max_s_greatest}
 use Rattle.loads.proofs.NetLaws.{net_is}
-use Rattle.loads.proofs.MaxSLaws.{load_whole, load_decided, load_negative, negative_load}
+use Rattle.loads.proofs.MaxSLaws.{load_whole, load_decided, load_negative}
 use Rattle.judgement.specs.declared.Region.{Region}
 use Rattle.judgement.specs.declared.Region.TheVariants.{AcidKept, NoSulphur, Slope, Corner, SulphurOnly}
 use Rattle.judgement.specs.declared.Verdict.{Verdict}
@@ -77,7 +77,7 @@ module _ (t : Terms) (b : TermBounds t) where
       omega (arith, ints, k.balance, most, signed_sum t, below)
 
   -- from zero on the pair of no deposition closes, at the greatest level
-  zero_closes_acid : load_rule t ≡ Ok tt → AcidCloses t 0 0
+  pub zero_closes_acid : load_rule t ≡ Ok tt → AcidCloses t 0 0
   zero_closes_acid p = record {
     u = 0;
     i = 0;
@@ -89,15 +89,8 @@ module _ (t : Terms) (b : TermBounds t) where
     balance = rw mul-zero (omega (arith, ints, load_whole t p, signed_sum t, leaching_net t));
   }
 
-  negative_iff : (load_rule t ≡ Err LoadBelowZero) ↔ (signed_max_s t <ℤ pos 0)
-  negative_iff = (λ e. load_negative t e, λ l. negative_load t l)
-
-  pub no_pair_closes : NoPairCloses t
-  no_pair_closes = record {
-    negative = negative_iff;
-    none = (λ e. none_closes (negative_iff.0 e), λ none. load_decided t (λ p. absurd (none 0 0 (zero_closes_acid p))) (λ e. e));
-    some = zero_closes_acid;
-  }
+  pub none_by_rule : (load_rule t ≡ Err LoadBelowZero) ↔ NoPairCloses t
+  none_by_rule = (λ e. none_closes (load_negative t e), λ none. load_decided t (λ p. absurd (none 0 0 (zero_closes_acid p))) (λ e. e))
 
 -- ---- where rule 21 passes
 

@@ -6,18 +6,19 @@ use Rattle.loads.specs.Check.{site_rule}
 use Rattle.site.specs.declared.Site.{Site}
 use Rattle.site.specs.declared.Rule.{Rule}
 use Rattle.std.specs.Prelude.{Ok, Err}
+use Rattle.site.specs.Check.{due_rule}
 use Rattle.site.specs.Refusal.{and_then}
 use Rattle.site.proofs.ByCheckLaws.{given_by_lem, refused_by}
 use Rattle.loads.specs.SiteTerms.{terms_of}
 use Rattle.loads.specs.Terms.{Terms}
 use Rattle.loads.specs.CriticalLoads.{loads_of, load_numbers}
 use Rattle.judgement.specs.declared.Judged.{Judged}
-use Rattle.judgement.specs.Balance.{Says}
+use Rattle.judgement.specs.Balance.{RefusedBelowZero, Says}
 use Rattle.judgement.specs.Regions.{region_number, region_of, acid_in, acid_of}
 use Rattle.judgement.specs.Verdicts.{region, acid_exceedance, nutrient_exceedance, verdict_of, verdict, verdict_numbers, verdict_word, within, over}
 use Rattle.judgement.specs.Answers.{judged_of, judgement_answer, judged_values, pair_values}
 use Rattle.judgement.proofs.Demand3.{numbers_of_lem}
-use Rattle.judgement.proofs.AtSites.{word_tells}
+use Rattle.judgement.proofs.AtSites.{word_tells, refused_below_zero}
 
 -- the verdict from the loads at hand
 pub verdict_by_loads :
@@ -59,3 +60,13 @@ module _ (list : List ℕ) (s : Site) where
   pub judgement_refused : (r : Rule) → judgement_answer list s ≡ Err r → site_rule list s ≡ Err r
   unfolding judgement_answer
   judgement_refused = refused_by (site_rule list s) (judged_of list s)
+
+  -- rule 21 in an answer
+  module _ (fields : due_rule list s ≡ Ok tt) where
+    pub refused_for : (r : Rule) → site_rule list s ≡ Err r → RefusedBelowZero {A = Judged} list s (Err r)
+    unfolding and_then
+    refused_for r e = rw e at (refused_below_zero list s fields (judged_of list s))
+
+    pub judged_for : (j : Judged) → site_rule list s ≡ Ok tt → RefusedBelowZero list s (Ok j)
+    unfolding and_then
+    judged_for j e = rw e at (refused_below_zero list s fields j)

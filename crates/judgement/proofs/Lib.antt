@@ -6,6 +6,6 @@ pub mod Demand3
 pub mod Monotone
 pub mod AtSites
 pub mod ReserveLaws
-pub mod OlderLaws
+pub mod WithoutBicarbonateLaws
 pub mod JudgementAnswers
 pub mod Cases

@@ -1,13 +1,12 @@
 -- Demand 3: the balances behind a verdict, on the terms of document 01 at a site.
-use Rattle.std.specs.Prelude.{ℕ, ◌+◌, ◌*◌, ◌-◌, ◌≤◌, ◌≡◌, ◌↔◌, ◌⊎◌, List, Ok, Err, pos, ◌+ℤ◌, ◌*ℤ◌, ◌≤ℤ◌, ◌<ℤ◌}
+use Rattle.std.specs.Prelude.{ℕ, ◌+◌, ◌*◌, ◌-◌, ◌≤◌, ◌≡◌, ◌↔◌, ◌⊎◌, List, Result, Ok, Err, pos, ◌+ℤ◌, ◌*ℤ◌, ◌≤ℤ◌, ◌<ℤ◌}
+use Rattle.site.specs.declared.Rule.{Rule}
 use Rattle.site.specs.declared.Rule.TheVariants.{LoadBelowZero}
 use Rattle.site.specs.declared.Site.{Site}
 use Rattle.loads.specs.Terms.{Terms}
 use Rattle.loads.specs.SiteTerms.{terms_of}
 use Rattle.loads.specs.Hydrogen.{aluminium, net}
-use Rattle.site.specs.Check.{due_rule}
-use Rattle.loads.specs.MaxS.{signed_max_s, load_rule}
-use Rattle.loads.specs.Check.{site_rule}
+use Rattle.loads.specs.MaxS.{signed_max_s}
 use Rattle.judgement.specs.Verdicts.{within, over}
 
 -- a hydrogen level, from 1, that neither critical limit forbids
@@ -33,20 +32,16 @@ pub record Closes (t : Terms) (S N : ℕ) : Type 0 where
   pub acid : AcidCloses t S N
   pub nitrogen_balance : t.e * (N - acid.u - acid.i) ≤ 1000 * t.L
 
--- CLmaxS is below zero, and rule 21 broken, exactly where no pair at all closes the acid balance
-pub record NoPairCloses (t : Terms) : Type 0 where
-  pub negative : (load_rule t ≡ Err LoadBelowZero) ↔ (signed_max_s t <ℤ pos 0)
-  pub none : (load_rule t ≡ Err LoadBelowZero) ↔ ((S N : ℕ) → AcidCloses t S N → ⊥)
-  -- a pair in the range of field 0F closes it everywhere else: that of no deposition
-  pub some : load_rule t ≡ Ok tt → AcidCloses t 0 0
+-- no pair at all closes the acid balance
+abbrev pub NoPairCloses : Terms → Type 0
+NoPairCloses t = (S N : ℕ) → AcidCloses t S N → ⊥
 
--- so a site whose fields pass the check is refused, by 21, exactly there
-pub record NoneClosesAt (list : List ℕ) (s : Site) : Type 0 where
-  pub refused : (site_rule list s ≡ Err LoadBelowZero) ↔ ((S N : ℕ) → AcidCloses (terms_of list s) S N → ⊥)
-  pub otherwise : site_rule list s ≡ Ok tt → AcidCloses (terms_of list s) 0 0
-
-abbrev pub NoneCloses : Type 0
-NoneCloses = (list : List ℕ) (s : Site) → due_rule list s ≡ Ok tt → NoneClosesAt list s
+-- What is answered, with the list, for a site whose fields pass the check: 21 exactly where CLmaxS is below zero, which is exactly where no pair closes the acid
+-- balance. Elsewhere the pair of no deposition does.
+pub record RefusedBelowZero {A : Type 0} (list : List ℕ) (s : Site) (answer : Result A Rule) : Type 0 where
+  pub negative : (answer ≡ Err LoadBelowZero) ↔ (signed_max_s (terms_of list s) <ℤ pos 0)
+  pub none : (answer ≡ Err LoadBelowZero) ↔ NoPairCloses (terms_of list s)
+  pub some : (x : A) → answer ≡ Ok x → AcidCloses (terms_of list s) 0 0
 
 -- The sign x is one of two: the first exactly where the balances close at the deposition S, N, and the second exactly where they do not.
 pub record Tells {A : Type 0} (first second x : A) (t : Terms) (S N : ℕ) : Type 0 where

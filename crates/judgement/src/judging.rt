@@ -1,12 +1,16 @@
 // The verdict, and the call open to users.
-ghost use Rattle.std.specs.Prelude.{◌≡◌, ◌-◌};
+ghost use Rattle.std.specs.Prelude.{◌≡◌, ◌↔◌, ◌-◌, Ok};
+ghost use Rattle.site.specs.Check.{due_rule};
+ghost use Rattle.site.specs.Kinds.{counted_dioxide};
 ghost use Rattle.loads.specs.Check.{site_rule};
 ghost use Rattle.site.specs.Refusal.{values_if};
 ghost use Rattle.loads.specs.SiteTerms.{terms_of};
 ghost use Rattle.judgement.specs.Regions.{region_of, acid_of};
 ghost use Rattle.judgement.specs.Verdicts.{verdict_of, verdict_word};
 ghost use Rattle.judgement.specs.Answers.{judged_of, judgement_answer, judgement_values, pair_values};
-ghost use Rattle.judgement.specs.Balance.{Says};
+ghost use Rattle.judgement.specs.Balance.{RefusedBelowZero, Says};
+ghost use Rattle.judgement.specs.declared.Verdict.TheVariants.{Within};
+ghost use Rattle.judgement.specs.WithoutBicarbonate.{ClosesUnlost};
 
 use crate::position::Position;
 use crate::{Judged, Region, Verdict};
@@ -51,6 +55,12 @@ pub fn judge(site: Site, list: SpeciesList<'_>) -> Result<Judged, Rule>
     ensures answer { result ≡ judgement_answer list.entry.bytes.now site }
     ensures values { judgement_values result ≡ values_if (site_rule list.entry.bytes.now site) (pair_values (terms_of list.entry.bytes.now site) site.sulphur site.nitrogen) }
     ensures demand3 { (j : Judged) → result ≡ Ok j → Says list.entry.bytes.now (verdict_word j.verdict) site }
+
+    // CLmaxS below zero: 21, exactly where no pair at all closes the acid balance.
+    ensures below_zero { due_rule list.entry.bytes.now site ≡ Ok tt → RefusedBelowZero list.entry.bytes.now site result }
+
+    // Without soil carbon dioxide the mark is that of the balances without bicarbonate.
+    ensures unlost { (j : Judged) → result ≡ Ok j → counted_dioxide site ≡ 0 → (j.verdict ≡ Within) ↔ ClosesUnlost (terms_of list.entry.bytes.now site) site.sulphur site.nitrogen }
 {
     Ok(judge_passed(PassedSite::checked(site, list)?))
 }

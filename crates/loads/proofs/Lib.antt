@@ -19,5 +19,5 @@ pub mod OneSiteLaws
 pub mod LimitAnswers
 pub mod LoadsAnswers
 pub mod ExampleTerms
-pub mod WithoutDioxideLaws
+pub mod WithoutBicarbonateLaws
 pub mod ListedLaws

@@ -10,7 +10,7 @@ use Rattle.std.specs.Prelude.{Ok}
 use Rattle.site.specs.Ranges.{ceiling_range}
 use Rattle.loads.specs.MostTerms.{most_hydrogen, most_max_s}
 use Rattle.loads.specs.Terms.{Terms, TermBounds}
-use Rattle.loads.specs.Hydrogen.{hydrogen_of, hydrogen, aluminium, bicarbonate, net, greatest_level, critical_leaching}
+use Rattle.loads.specs.Hydrogen.{hydrogen_of, hydrogen, aluminium, bicarbonate, net, greatest_level, critical_leaching, NetRises}
 use Rattle.loads.specs.MaxS.{signed_max_s, load_rule, cl_max_s}
 use Rattle.loads.specs.CriticalLoads.{cl_min_n, cl_max_n, cl_nut_n, loads_of}
 use Rattle.loads.proofs.LevelLaws.{hydrogen_of_mono, al_of_mono, level_le, level_least, level_allowed, level_greatest}
@@ -82,6 +82,9 @@ module _ (t : Terms) where
   pub net_greatest : (h : ℕ) → 1 ≤ h → h ≤ t.H → aluminium t h ≤ t.A → net t h ≤ℤ critical_leaching t
   unfolding critical_leaching
   net_greatest h l c a = net_rises l (greatest_of_all h c a)
+
+  pub net_rises_lem : NetRises t
+  net_rises_lem = record { rises = λ i j l h. net_rises l h; most = net_greatest }
 
   -- so no allowed level brings more than CLmaxS, which the greatest one brings
   pub cl_max_s_greatest :

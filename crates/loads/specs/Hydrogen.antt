@@ -1,5 +1,5 @@
--- The hydrogen level: whole tenths of meq per cubic metre, from 1 (document 02, E13), and what is leached there.
-use Rattle.std.specs.Prelude.{ℕ, zero, suc, ◌+◌, ◌*◌, ◌/◌, ◌^◌, ◌≤◌, Bool, leb, ℤ, pos, ◌-ℤ◌}
+-- The hydrogen level: whole tenths of meq per cubic metre, from 1, and what is leached there.
+use Rattle.std.specs.Prelude.{ℕ, zero, suc, ◌+◌, ◌*◌, ◌/◌, ◌^◌, ◌≤◌, Bool, leb, ℤ, pos, ◌-ℤ◌, ◌≤ℤ◌}
 use Rattle.site.specs.Choice.{pick}
 use Rattle.site.specs.Ranges.{percolation_range, gibbsite_range, ceiling_range}
 use Rattle.loads.specs.Rounding.{up}
@@ -57,3 +57,8 @@ net t h = pos (hydrogen t h + aluminium t h) -ℤ pos (bicarbonate t h)
 -- M
 unfoldable pub critical_leaching : Terms → ℤ
 critical_leaching t = net t (greatest_level t)
+
+-- as h rises from 1 the net never falls, so no allowed level leaches more than M
+pub record NetRises (t : Terms) : Type 0 where
+  pub rises : (i j : ℕ) → 1 ≤ i → i ≤ j → net t i ≤ℤ net t j
+  pub most : (h : ℕ) → 1 ≤ h → h ≤ t.H → aluminium t h ≤ t.A → net t h ≤ℤ critical_leaching t

@@ -14,6 +14,6 @@ pub mod Limits
 pub mod Hydrogen
 pub mod MaxS
 pub mod Check
-pub mod WithoutDioxide
+pub mod WithoutBicarbonate
 pub mod Search
 pub mod CriticalLoads

@@ -5,10 +5,10 @@ ghost use Rattle.site.specs.Refusal.{values_if};
 ghost use Rattle.loads.specs.SiteTerms.{terms_of};
 ghost use Rattle.loads.specs.Limits.{limit_answer, limit_values};
 
-use crate::passed::PassedSite;
+use crate::passed::check_load;
 use crate::uptake::base_uptake;
 use crate::valid::ValidSite;
-use site::{Rule, Site, SpeciesList};
+use site::{CheckedFields, Rule, Site, SpeciesList};
 
 // B + W − Bu, and A
 #[derive(Clone, Copy)]
@@ -38,11 +38,12 @@ impl ValidSite<'_> {
 }
 
 // The aluminium limit of a site, or the first rule that it breaks.
-#[tactic(auto, unfolding(crate::specs::Limits::limit_answer, crate::specs::Limits::limit_values, site::specs::Refusal::values_if, site::specs::Refusal::and_then))]
+#[tactic(auto, unfolding(crate::specs::Check::site_rule, crate::specs::Limits::limit_answer, crate::specs::Limits::limit_values, site::specs::Refusal::values_if, site::specs::Refusal::and_then))]
 pub fn aluminium_limit(site: Site, list: SpeciesList<'_>) -> Result<u64, Rule>
     ensures answer { result ≡ limit_answer list.entry.bytes.now site }
     ensures values { limit_values result ≡ values_if (site_rule list.entry.bytes.now site) ((terms_of list.entry.bytes.now site).A ∷ []) }
 {
-    let passed = PassedSite::checked(site, list)?;
-    Ok(ValidSite::of(passed.fields()).bases().limit)
+    let fields = CheckedFields::checked(site, list)?;
+    check_load(fields)?;
+    Ok(ValidSite::of(fields).bases().limit)
 }

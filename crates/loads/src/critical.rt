@@ -4,7 +4,10 @@ ghost use Rattle.loads.specs.Check.{site_rule};
 ghost use Rattle.site.specs.Refusal.{values_if};
 ghost use Rattle.loads.specs.MostTerms.{most_supply, most_hydrogen, most_a, most_bicarbonate};
 ghost use Rattle.loads.specs.MaxS.{sign_rule, load_rule, cl_max_s};
+ghost use Rattle.site.specs.Kinds.{counted_dioxide};
 ghost use Rattle.loads.specs.SiteTerms.{terms_of};
+ghost use Rattle.loads.specs.Hydrogen.{NetRises};
+ghost use Rattle.loads.specs.WithoutBicarbonate.{unlost_answer};
 ghost use Rattle.loads.specs.CriticalLoads.{cl_min_n, cl_max_n, cl_nut_n, loads_of, loads_answer, loads_values};
 
 use crate::Loads;
@@ -65,10 +68,16 @@ impl ValidSite<'_> {
 }
 
 // The loads of a site, or the first rule that it breaks.
-#[tactic(auto, unfolding(crate::specs::CriticalLoads::loads_answer, crate::specs::CriticalLoads::loads_values, crate::specs::CriticalLoads::load_numbers, crate::specs::CriticalLoads::loads_of, site::specs::Refusal::values_if, site::specs::Refusal::and_then))]
+#[tactic(auto, using(crate::proofs::TermLaws::net_rises_lem, crate::proofs::WithoutBicarbonateLaws::unlost_refused, crate::proofs::WithoutBicarbonateLaws::unlost_given), unfolding(crate::specs::CriticalLoads::loads_answer, crate::specs::CriticalLoads::loads_values, crate::specs::CriticalLoads::load_numbers, crate::specs::CriticalLoads::loads_of, site::specs::Refusal::values_if, site::specs::Refusal::and_then))]
 pub fn critical_loads(site: Site, list: SpeciesList<'_>) -> Result<Loads, Rule>
     ensures answer { result ≡ loads_answer list.entry.bytes.now site }
     ensures values { let t = terms_of list.entry.bytes.now site in loads_values result ≡ values_if (site_rule list.entry.bytes.now site) (cl_max_s t ∷ cl_min_n t ∷ cl_max_n t ∷ cl_nut_n t ∷ []) }
+
+    // The net that M is taken from rises with the level.
+    ensures net { NetRises (terms_of list.entry.bytes.now site) }
+
+    // Without soil carbon dioxide nothing is lost, and no site is refused by 21.
+    ensures unlost { counted_dioxide site ≡ 0 → result ≡ unlost_answer list.entry.bytes.now site }
 {
     Ok(PassedSite::checked(site, list)?.loads)
 }

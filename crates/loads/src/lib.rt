@@ -16,7 +16,7 @@ pub use bases::aluminium_limit;
 pub use critical::critical_loads;
 pub use hydrogen::greatest_level;
 pub use nitrogen::undenitrified_at;
-pub use passed::{PassedSite, check_site};
+pub use passed::{PassedSite, check_load, check_site};
 
 // The greatest allowed hydrogen level, and how many levels were compared with the aluminium limit to find it.
 #[derive(Clone, Copy, Debug, PartialEq, Eq)]

@@ -3,6 +3,7 @@ ghost use Rattle.std.specs.Prelude.{◌≡◌, MatchResult, Ok, Err};
 ghost use Rattle.site.specs.Refusal.{checked_number};
 ghost use Rattle.loads.specs.Check.{site_rule, SiteNumbered};
 ghost use Rattle.loads.specs.SiteTerms.{terms_of};
+ghost use Rattle.loads.specs.MaxS.{load_rule};
 ghost use Rattle.loads.specs.CriticalLoads.{loads_of};
 
 use crate::Loads;
@@ -36,25 +37,24 @@ impl<'a> PassedSite<'a> {
     {
         PassedSite::of(CheckedFields::checked(site, list)?)
     }
+}
 
-    // Its fields pass.
-    #[tactic(auto, using(crate::proofs::CheckLaws::passed_fields))]
-    pub fn fields(self) -> CheckedFields<'a>
-        ensures { (result.site ≡ self.entry.site) × (result.list.bytes.now ≡ self.entry.list.bytes.now) }
-    {
-        CheckedFields {
-            site: self.site,
-            list: self.list,
-        }
+// Rule 21 alone. Where P is 0 it is never broken, so nothing is worked out.
+#[tactic(auto, using(crate::proofs::CheckLaws::fields_then, crate::proofs::WithoutBicarbonateLaws::unlost_rule))]
+pub fn check_load(fields: CheckedFields<'_>) -> Result<(), Rule>
+    ensures { result ≡ load_rule (terms_of fields.entry.list.bytes.now fields.entry.site) }
+{
+    if fields.site.counted_dioxide() != 0 {
+        PassedSite::of(fields)?;
     }
+    Ok(())
 }
 
 // The check alone.
-#[tactic(auto, using(crate::proofs::CheckLaws::site_numbered))]
+#[tactic(auto, using(crate::proofs::CheckLaws::site_numbered), unfolding(crate::specs::Check::site_rule, site::specs::Refusal::and_then))]
 pub fn check_site(site: Site, list: SpeciesList<'_>) -> Result<(), Rule>
     ensures answer { result ≡ site_rule list.entry.bytes.now site }
     ensures number { SiteNumbered (site_rule list.entry.bytes.now site) (checked_number result) }
 {
-    PassedSite::checked(site, list)?;
-    Ok(())
+    check_load(CheckedFields::checked(site, list)?)
 }
