@@ -20,7 +20,7 @@ use Rattle.site.specs.SpeciesList.{first_failing, good_entry, least_at, first_ba
 use Rattle.site.specs.Bounds.{no_entry}
 use Rattle.record.specs.Fields.{head_rule, walk_fields, encode_fields, encode_as}
 use Rattle.record.specs.Records.{outer_rule, ending, record_in, only_one, single}
-use Rattle.record.specs.Outer.{site_tag, site_kinds, fields_at, read_record}
+use Rattle.record.specs.Outer.{known_to, site_kinds, fields_at, read_record}
 use Rattle.site.specs.Kinds.{counted_dioxide}
 use Rattle.record.proofs.RoundTrip.{unlost_read}
 use Rattle.record.specs.Writer.{encode}
@@ -46,8 +46,8 @@ bytes_a1 =
     ∷ []
 
 -- whatever the list
-a1_fields : (list : List ℕ) → single (fields_at list bytes_a1) (length bytes_a1) ≡ Ok a1
-unfolding single only_one fields_at record_in ending outer_rule head_rule unless walk_fields field_rule length_permitted tabulate entry_at store value_rule and_then stand_rule composition_rule entries_rule known_rule species_known lists place_of first_failing between name_byte entry_ranged rising_from shares_of blank_of blank_site site_tag site_kinds
+a1_fields : (list : List ℕ) → single (fields_at Tag55 list bytes_a1) (length bytes_a1) ≡ Ok a1
+unfolding single only_one fields_at record_in ending outer_rule head_rule unless walk_fields field_rule length_permitted tabulate entry_at store value_rule and_then stand_rule composition_rule entries_rule known_rule species_known lists place_of first_failing between name_byte entry_ranged rising_from shares_of blank_of blank_site known_to site_kinds
 a1_fields list = refl
 
 pub a1_read : (list : List ℕ) → read_record list bytes_a1 ≡ Ok a1
@@ -65,8 +65,8 @@ bytes_a1_20 = 83 ∷ 0 ∷ 79 ∷ drop 3 bytes_a1 ++ 16 ∷ 0 ∷ 1 ∷ 25 ∷ [
 abbrev a1_20 : Site
 a1_20 = record a1 { kind = Tag53; temperature = 25 }
 
-a1_20_fields : (list : List ℕ) → single (fields_at list bytes_a1_20) (length bytes_a1_20) ≡ Ok a1_20
-unfolding single only_one fields_at record_in ending outer_rule head_rule unless walk_fields field_rule length_permitted tabulate entry_at store value_rule and_then stand_rule composition_rule entries_rule known_rule species_known lists place_of first_failing between name_byte entry_ranged rising_from shares_of blank_of blank_site site_tag site_kinds
+a1_20_fields : (list : List ℕ) → single (fields_at Tag55 list bytes_a1_20) (length bytes_a1_20) ≡ Ok a1_20
+unfolding single only_one fields_at record_in ending outer_rule head_rule unless walk_fields field_rule length_permitted tabulate entry_at store value_rule and_then stand_rule composition_rule entries_rule known_rule species_known lists place_of first_failing between name_byte entry_ranged rising_from shares_of blank_of blank_site known_to site_kinds
 a1_20_fields list = refl
 
 a1_20_read : (list : List ℕ) → read_record list bytes_a1_20 ≡ Ok a1_20
@@ -103,8 +103,8 @@ a1_54 = record a1_20 {
   };
 }
 
-a1_54_fields : single (fields_at one_species bytes_a1_54) (length bytes_a1_54) ≡ Ok a1_54
-unfolding single only_one fields_at record_in ending outer_rule head_rule unless walk_fields field_rule length_permitted tabulate entry_at store value_rule and_then stand_rule composition_rule entries_rule known_rule species_known lists place_of first_failing between name_byte entry_ranged rising_from shares_of blank_of blank_site site_tag site_kinds
+a1_54_fields : single (fields_at Tag55 one_species bytes_a1_54) (length bytes_a1_54) ≡ Ok a1_54
+unfolding single only_one fields_at record_in ending outer_rule head_rule unless walk_fields field_rule length_permitted tabulate entry_at store value_rule and_then stand_rule composition_rule entries_rule known_rule species_known lists place_of first_failing between name_byte entry_ranged rising_from shares_of blank_of blank_site known_to site_kinds
 a1_54_fields = refl
 
 a1_54_read : read_record one_species bytes_a1_54 ≡ Ok a1_54
@@ -125,8 +125,8 @@ bytes_reserve Tag53 = 83 ∷ 0 ∷ 75 ∷ reserve_fields ++ 16 ∷ 0 ∷ 1 ∷ 1
 bytes_reserve Tag54 = 84 ∷ 0 ∷ 75 ∷ reserve_fields ++ 16 ∷ 0 ∷ 1 ∷ 13 ∷ []
 bytes_reserve Tag55 = 85 ∷ 0 ∷ 80 ∷ reserve_fields ++ 16 ∷ 0 ∷ 1 ∷ 13 ∷ 17 ∷ 0 ∷ 2 ∷ 0 ∷ 0 ∷ []
 
-reserve_here : (list : List ℕ) (k : RecordKind) → single (fields_at list (bytes_reserve k)) (length (bytes_reserve k)) ≡ Ok (record a1_reserve { kind = k })
-unfolding single only_one fields_at record_in ending outer_rule head_rule unless walk_fields field_rule length_permitted tabulate entry_at store value_rule and_then stand_rule composition_rule entries_rule known_rule species_known lists place_of first_failing between name_byte entry_ranged rising_from shares_of blank_of blank_site site_tag site_kinds
+reserve_here : (list : List ℕ) (k : RecordKind) → single (fields_at Tag55 list (bytes_reserve k)) (length (bytes_reserve k)) ≡ Ok (record a1_reserve { kind = k })
+unfolding single only_one fields_at record_in ending outer_rule head_rule unless walk_fields field_rule length_permitted tabulate entry_at store value_rule and_then stand_rule composition_rule entries_rule known_rule species_known lists place_of first_failing between name_byte entry_ranged rising_from shares_of blank_of blank_site known_to site_kinds
 reserve_here list Tag52 = refl
 reserve_here list Tag53 = refl
 reserve_here list Tag54 = refl

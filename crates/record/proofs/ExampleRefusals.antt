@@ -17,7 +17,7 @@ use Rattle.record.specs.FieldParts.{field_of}
 use Rattle.record.specs.Result.{result_numbers}
 use Rattle.record.specs.Fields.{head_rule, walk_fields, encode_fields, encode_as}
 use Rattle.record.specs.Records.{outer_rule, ending, record_in, only_one, single}
-use Rattle.record.specs.Outer.{site_tag, site_kinds, fields_at, with_load, site_at, read_record}
+use Rattle.record.specs.Outer.{known_to, site_kinds, fields_at, with_load, site_to, read_record}
 use Rattle.record.specs.Writer.{write_rule}
 use Rattle.site.specs.Kinds.{counted_temperature, counted_dioxide}
 use Rattle.loads.specs.Rounding.{up}
@@ -104,7 +104,7 @@ refusals =
     ∷ []
 
 refusals_agree : map (λ (r : Refusal). result_numbers (read_record one_species r.bytes)) refusals ≡ map (λ (r : Refusal). r.given) refusals
-unfolding with_load fields_at load_rule signed_max_s critical_leaching net hydrogen aluminium bicarbonate hydrogen_of al_of bicarbonate_of greatest_level level_of greatest_where up terms_of counted_temperature counted_dioxide temperature_factor texture_of class_of weathering_of weathering available_weathering species_row content nitrogen_in base_in weight_of stand_sum nitrogen_uptake base_demand base_uptake_of base_uptake base_supply aluminium_limit denitrified undenitrified leaching result_numbers read_record single only_one site_at record_in ending outer_rule head_rule unless walk_fields field_rule length_permitted tabulate entry_at store value_rule and_then stand_rule composition_rule entries_rule known_rule species_known lists place_of first_failing between name_byte entry_ranged rising_from shares_of blank_of blank_site site_tag site_kinds
+unfolding with_load fields_at load_rule signed_max_s critical_leaching net hydrogen aluminium bicarbonate hydrogen_of al_of bicarbonate_of greatest_level level_of greatest_where up terms_of counted_temperature counted_dioxide temperature_factor texture_of class_of weathering_of weathering available_weathering species_row content nitrogen_in base_in weight_of stand_sum nitrogen_uptake base_demand base_uptake_of base_uptake base_supply aluminium_limit denitrified undenitrified leaching result_numbers read_record single only_one site_to record_in ending outer_rule head_rule unless walk_fields field_rule length_permitted tabulate entry_at store value_rule and_then stand_rule composition_rule entries_rule known_rule species_known lists place_of first_failing between name_byte entry_ranged rising_from shares_of blank_of blank_site known_to site_kinds
 refusals_agree = refl
 
 -- A1 has 78 bytes, and 77 are lent

@@ -94,6 +94,26 @@ module _ {A : Type 0} (read : ℕ → Result (A × ℕ) Refusal) (len : ℕ) whe
   contents_every P each most xs e =
       file_by (λ n at xs. (length xs ≤ n) × All P xs) (λ n at h. (omega arith, none)) (λ n at x xs h r p. (omega (arith, p.0), each at x r ▸ p.1)) most 0 xs (contents_walked most xs e)
 
+-- a reader that gives what another gave, at each value that has P, gives what it gave of a file whose values all have it
+module _ {A : Type 0} (read other : ℕ → Result (A × ℕ) Refusal) (len : ℕ) (P : A → Type 0) (same : (at : ℕ) (x : A × ℕ) → read at ≡ Ok x → P x.0 → other at ≡ Ok x) where
+  walked_same : (n at : ℕ) (xs : List A) → walk_file read len n at ≡ Ok xs → All P xs → walk_file other len n at ≡ Ok xs
+  unfolding onto first
+  walked_same =
+      file_by read len (λ n at xs. All P xs → walk_file other len n at ≡ Ok xs)
+      (λ n at h p. file_end other len n at h)
+      (λ n at x xs h r goes_on p. file_step other len n at h ∙ by_all p (λ q qs. rw (same at x r q, goes_on qs)))
+    where
+      by_all : {x : A} {xs : List A} {G : Type 0} → All P (x ∷ xs) → (P x → All P xs → G) → G
+      by_all (q ▸ qs) give = give q qs
+
+  pub contents_same : (most : ℕ) (xs : List A) → contents_by most read len ≡ Ok xs → All P xs → contents_by most other len ≡ Ok xs
+  unfolding contents_by
+  contents_same most xs e p =
+      ⊎_elim
+      (λ (nothing : len ≤ 0). let bad = sym (contents_none read len most nothing) ∙ e in cc)
+      (λ (some : 0 < len). contents_some other len most some ∙ walked_same most 0 xs (contents_walked read len most xs e) p)
+      (le_or_lt len 0)
+
 -- ---- the file of at most one record
 
 module _ {A : Type 0} (read : ℕ → Result (A × ℕ) Refusal) (len : ℕ) (inside : (x : A × ℕ) → read 0 ≡ Ok x → x.1 ≤ len) where

@@ -12,6 +12,7 @@ pub mod OuterLaws
 pub mod SiteTrips
 pub mod Place
 pub mod LostLaws
+pub mod OlderLaws
 pub mod PairLaws
 pub mod SiteFile
 pub mod UnreadLaws

@@ -17,7 +17,7 @@ use Rattle.site.specs.declared.Rule.{Rule}
 use Rattle.site.specs.declared.Refusal.{Refusal}
 use Rattle.loads.specs.SiteTerms.{terms_of}
 use Rattle.loads.specs.MaxS.{load_rule}
-use Rattle.loads.proofs.WithoutDioxideLaws.{older_stay}
+use Rattle.loads.proofs.WithoutBicarbonateLaws.{none_counted, unlost_rule}
 use Rattle.field.specs.Field.{value, site_kind}
 use Rattle.field.specs.Kind.{Kind}
 use Rattle.record.specs.FieldParts.{field_of}
@@ -32,7 +32,7 @@ lost_kind : (list : List ℕ) (s : Site) {r : Rule} → load_rule (terms_of list
 lost_kind list s {r} e = by_kind s.kind refl
   where
     older : has_dioxide s.kind ≡ false → ⊥
-    older h = let p = (older_stay list s h).terms.passes in cc
+    older h = let p = unlost_rule list s (none_counted list s h) in cc
 
     by_kind : (k : RecordKind) → s.kind ≡ k → s.kind ≡ Tag55
     by_kind Tag52 is = absurd (older (rw is))
@@ -84,12 +84,12 @@ unfolding EndsWith11
 last_field s is = subst (λ k. EndsWith11 (encode_as (site_kind [] k) s)) (sym is) (ends_with_11 s)
 
 -- so 21 stands at the tag of that field
-pub lost_at_field : (list f : List ℕ) (start : ℕ) {r : Refusal} → AllBytes f → (l : LoadBroken list f start r) → LostAtField f l.site r.at
-lost_at_field list f start {r} b l =
+pub lost_at_field : (newest : RecordKind) (list f : List ℕ) (start : ℕ) {r : Refusal} → AllBytes f → (l : LoadBroken newest list f start r) → LostAtField f l.site r.at
+lost_at_field newest list f start {r} b l =
     let kind = lost_kind list l.site l.broken in
     let last = last_field l.site kind in
-    let bytes = fields_bytes list f start l.accepted b in
-    let inside = fields_inside list f start l.accepted in
+    let bytes = fields_bytes newest list f start l.accepted b in
+    let inside = fields_inside newest list f start l.accepted in
     let long : length (encode l.site) ≡ l.next - start = rw bytes (simp (length-take, length-drop) (omega arith)) in
     let n = length (encode l.site) - 5 in
     let at : start + n ≡ r.at = omega (arith, l.offset, long, last.0) in

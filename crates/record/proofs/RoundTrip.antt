@@ -9,6 +9,7 @@ use lib.ListN.{length, take}
 use lib.Seq.{take_all}
 use borrow.Author.Tests.{ne_eqb, eq-eqb}
 use Rattle.std.specs.Prelude.{Result, Ok, Err, IfOk}
+use Rattle.site.specs.declared.RecordKind.TheVariants.{Tag55}
 use Rattle.site.specs.declared.Site.{Site}
 use Rattle.site.specs.declared.Refusal.{Refusal}
 use Rattle.site.specs.declared.Rule.TheVariants.{NoBytes, TooMany}
@@ -17,9 +18,9 @@ use Rattle.field.specs.Field.{site_kind}
 use Rattle.numbers.specs.TwoBytes.{AllBytes}
 use Rattle.field.specs.Clean.{clean, Sized}
 use Rattle.record.specs.Result.{result_numbers}
-use Rattle.record.specs.declared.Found.{Found}
+use Rattle.record.specs.declared.found.Found.{Found}
 use Rattle.record.specs.Records.{most_record, only_one, single}
-use Rattle.record.specs.Outer.{fields_at, site_at, record_at, read_record}
+use Rattle.record.specs.Outer.{fields_at, site_to, site_at, record_at, read_record}
 use Rattle.site.specs.Kinds.{counted_dioxide}
 use Rattle.record.proofs.LoadRuleLaws.{unlost_with}
 use Rattle.record.specs.File.{alone, contents_by}
@@ -51,25 +52,25 @@ module _ (list : List ℕ) (s : Site) (f : List ℕ) (e : read_record list f ≡
 
   -- a site that was read passes the check; past the name and the entries stand zeros, and in the temperature's place of kind 52 that of 8 °C
   pub read_passes : site_rule list s ≡ Ok tt
-  read_passes = site_passes list f 0 found_first
+  read_passes = site_passes Tag55 list f 0 found_first
 
   pub read_clean : clean s ≡ s
-  read_clean = site_clean list f 0 found_first
+  read_clean = site_clean Tag55 list f 0 found_first
 
   written_read : AllBytes f → encode s ≡ f
   written_read b =
       let n : length f - 0 ≡ length f = omega arith in
       let t : take (length f) f ≡ f = take_all (length f) f (omega arith) in
-      rw n at (site_bytes list f 0 found_first b) ∙ t
+      rw n at (site_bytes Tag55 list f 0 found_first b) ∙ t
 
   -- an accepted record is written again byte for byte
   pub writes_again : AllBytes f → WritesAgain list s f
   writes_again b = record { passes = read_passes; bytes = written_read b }
 
 -- without carbon dioxide a record is read as its fields are
-pub unlost_read : (list f : List ℕ) (s : Site) → 1 ≤ length f → single (fields_at list f) (length f) ≡ Ok s → counted_dioxide s ≡ 0 → read_record list f ≡ Ok s
-unfolding read_record site_at
-unlost_read list f s some e none = ok_single (site_at list f) (length f) some (unlost_with list (single_ok (fields_at list f) (length f) e) none)
+pub unlost_read : (list f : List ℕ) (s : Site) → 1 ≤ length f → single (fields_at Tag55 list f) (length f) ≡ Ok s → counted_dioxide s ≡ 0 → read_record list f ≡ Ok s
+unfolding read_record site_to
+unlost_read list f s some e none = ok_single (site_at list f) (length f) some (unlost_with list (single_ok (fields_at Tag55 list f) (length f) e) none)
 
 -- two different records never read to one site, with one list or with two
 pub read_injective : (list more : List ℕ) (s : Site) (f g : List ℕ) → AllBytes f → AllBytes g → read_record list f ≡ Ok s → read_record more g ≡ Ok s → f ≡ g
@@ -77,12 +78,12 @@ read_injective list more s f g b c p q = sym (written_read list s f p b) ∙ wri
 
 -- a file that is read is one record of at most 258 bytes, and no fault lies past that
 pub read_short : (list f : List ℕ) {s : Site} → read_record list f ≡ Ok s → length f ≤ most_record
-read_short list f {s} e = site_near list f 0 (found_first list s f e)
+read_short list f {s} e = site_near Tag55 list f 0 (found_first list s f e)
 
 pub read_fault_near : (list f : List ℕ) {r : Refusal} → read_record list f ≡ Err r → r.at ≤ most_record
 unfolding alone
 read_fault_near list f e =
-    omega (arith, file_fault_near (site_at list f) most_record (λ at x r. site_near list f at r) (λ at r e. site_fault_near list f at e) (length f) 1 (single_is list f ∙ ap alone e))
+    omega (arith, file_fault_near (site_at list f) most_record (λ at x r. site_near Tag55 list f at r) (λ at r e. site_fault_near Tag55 list f at e) (length f) 1 (single_is list f ∙ ap alone e))
 
 -- ---- the reader's promises follow from its answer
 

@@ -10,77 +10,92 @@ use lib.ListN.{length, length-append}
 use lib.Seq.{append_snoc}
 use Rattle.std.specs.Prelude.{Option, Some, None, Result, Ok, Err}
 use Rattle.site.specs.Ranges.{most_records}
+use Rattle.site.specs.Refusal.{Checked, unless}
+use Rattle.site.specs.declared.RecordKind.{RecordKind}
 use Rattle.site.specs.declared.Site.{Site}
 use Rattle.site.specs.declared.Refusal.{Refusal}
 use Rattle.site.specs.declared.Rule.TheVariants.{TooMany}
 use Rattle.site.proofs.MapLaws.{map_id}
-use Rattle.record.specs.declared.Found.{Found}
-use Rattle.record.specs.Outer.{site_at, record_at}
+use Rattle.loads.specs.SiteTerms.{terms_of}
+use Rattle.loads.specs.MaxS.{load_rule}
+use Rattle.record.specs.declared.found.FieldsFound.{FieldsFound}
+use Rattle.record.specs.Outer.{dioxide_length, fields_at, with_load, site_to}
 use Rattle.record.specs.Result.{result_numbers}
 use Rattle.record.specs.File.{Contents, first, onto, made_of}
-use Rattle.record.specs.Unread.{step_of, after_step, sites_from, came, given}
+use Rattle.record.specs.Unread.{found_in, step_of, after_step, sites_from, came, given}
 use Rattle.record.proofs.FileLaws.{file_end, file_full, file_step}
-use Rattle.record.proofs.Place.{record_ok, record_err}
+use Rattle.record.proofs.LoadRuleLaws.{err_with}
 
--- ---- a step
+-- ---- what is still to come
 
-module _ (list f : List ℕ) (n at : ℕ) where
-  pub unread_end : length f ≤ at → sites_from list f n at ≡ Ok []
-  unread_end h = file_end (site_at list f) (length f) n at h
+-- rule 21 of a record in front of what follows it
+lost_onto : (c : Checked) (at : ℕ) (x : Site × ℕ) (more : ℕ → Contents Site) → onto (unless c at (Ok x)) more ≡ unless c at (first x.0 (more x.1))
+unfolding unless onto
+lost_onto (Ok tt) at x more = refl
+lost_onto (Err r) at x more = refl
 
-  pub unread_full : at < length f → n ≡ 0 → sites_from list f n at ≡ Err (record { rule = TooMany; at = at })
-  unread_full h z = rw z (file_full (site_at list f) (length f) at h)
+module _ (newest : RecordKind) (list f : List ℕ) (n at : ℕ) where
+  pub unread_end : length f ≤ at → sites_from newest list f n at ≡ Ok []
+  unread_end h = file_end (site_to newest list f) (length f) n at h
 
-  module _ (h : at < length f) (some : 1 ≤ n) where
-    step : sites_from list f n at ≡ onto (site_at list f at) (sites_from list f (n - 1))
-    step = let z : n ≡ suc (n - 1) = omega arith in ap (λ k. sites_from list f k at) z ∙ file_step (site_at list f) (length f) (n - 1) at h
-
-    pub unread_refused : {r : Refusal} → record_at list f at ≡ Err r → sites_from list f n at ≡ Err r
-    unfolding onto
-    unread_refused e = step ∙ rw (record_err list f at e)
-
-    pub unread_found : {x : Found} → record_at list f at ≡ Ok x → sites_from list f n at ≡ first x.site (sites_from list f (n - 1) x.next)
-    unfolding onto
-    unread_found e = step ∙ ap (λ q. onto q (sites_from list f (n - 1))) (record_ok list f at e)
-
--- what a step gives, and where it leads
-
-module _ (list f : List ℕ) (n at : ℕ) where
-  pub step_end : length f ≤ at → Ok None ≡ step_of list f n at
-  unfolding step_of
-  step_end h = rw (le-leb (length f) at h)
-
-  pub after_end : length f ≤ at → (n, at) ≡ after_step list f n at
-  unfolding after_step
-  after_end h = rw (le-leb (length f) at h)
-
-  pub step_full : at < length f → n ≡ 0 → Err (record { rule = TooMany; at = at }) ≡ step_of list f n at
-  unfolding step_of
-  step_full h z = rw (lt-leb (length f) at h, z)
-
-  pub after_full : at < length f → n ≡ 0 → (n, at) ≡ after_step list f n at
-  unfolding after_step
-  after_full h z = rw (lt-leb (length f) at h, z)
+  pub unread_full : at < length f → n ≡ 0 → sites_from newest list f n at ≡ Err (record { rule = TooMany; at = at })
+  unread_full h z = rw z (file_full (site_to newest list f) (length f) at h)
 
   module _ (h : at < length f) (some : 1 ≤ n) where
+    step : sites_from newest list f n at ≡ onto (site_to newest list f at) (sites_from newest list f (n - 1))
+    step =
+        let z : n ≡ suc (n - 1) = omega arith in
+        ap (λ k. sites_from newest list f k at) z ∙ file_step (site_to newest list f) (length f) (n - 1) at h
+
+    pub unread_refused : {r : Refusal} → fields_at newest list f at ≡ Err r → sites_from newest list f n at ≡ Err r
+    unfolding onto site_to
+    unread_refused e = step ∙ rw (err_with list e)
+
+    pub unread_found : (x : FieldsFound) → fields_at newest list f at ≡ Ok (found_in x)
+        → sites_from newest list f n at ≡ came list (Ok (Some x)) (sites_from newest list f (n - 1) x.next)
+    unfolding site_to with_load came
+    unread_found x e =
+        let c = load_rule (terms_of list x.checked.site) in
+        step ∙ rw e (lost_onto c (x.next - dioxide_length) (found_in x) (sites_from newest list f (n - 1)))
+
+-- ---- what a step gives, and where it leads
+
+module _ (read : ℕ → Result (Site × ℕ) Refusal) (len n at : ℕ) where
+  pub step_end : len ≤ at → Ok None ≡ step_of read len n at
+  unfolding step_of
+  step_end h = rw (le-leb len at h)
+
+  pub after_end : len ≤ at → (n, at) ≡ after_step read len n at
+  unfolding after_step
+  after_end h = rw (le-leb len at h)
+
+  pub step_full : at < len → n ≡ 0 → Err (record { rule = TooMany; at = at }) ≡ step_of read len n at
+  unfolding step_of
+  step_full h z = rw (lt-leb len at h, z)
+
+  pub after_full : at < len → n ≡ 0 → (n, at) ≡ after_step read len n at
+  unfolding after_step
+  after_full h z = rw (lt-leb len at h, z)
+
+  module _ (h : at < len) (some : 1 ≤ n) where
     here : eqb n 0 ≡ false
     here = ne_eqb n 0 (λ z. omega arith)
 
-    pub step_refused : {r : Refusal} → record_at list f at ≡ Err r → Err r ≡ step_of list f n at
+    pub step_refused : {r : Refusal} → read at ≡ Err r → Err r ≡ step_of read len n at
     unfolding step_of
-    step_refused e = rw (lt-leb (length f) at h, here, e)
+    step_refused e = rw (lt-leb len at h, here, e)
 
-    pub after_refused : {r : Refusal} → record_at list f at ≡ Err r → (n, at) ≡ after_step list f n at
+    pub after_refused : {r : Refusal} → read at ≡ Err r → (n, at) ≡ after_step read len n at
     unfolding after_step
-    after_refused e = rw (lt-leb (length f) at h, here, e)
+    after_refused e = rw (lt-leb len at h, here, e)
 
-    pub step_found : {x : Found} → record_at list f at ≡ Ok x → Ok (Some x) ≡ step_of list f n at
+    pub step_found : {x : Site × ℕ} → read at ≡ Ok x → Ok (Some x) ≡ step_of read len n at
     unfolding step_of
-    step_found e = rw (lt-leb (length f) at h, here, e)
+    step_found e = rw (lt-leb len at h, here, e)
 
-    pub after_found : {x : Found} → record_at list f at ≡ Ok x → (n - 1, x.next) ≡ after_step list f n at
+    pub after_found : {x : Site × ℕ} → read at ≡ Ok x → (n - 1, x.1) ≡ after_step read len n at
     unfolding after_step
-    after_found e = rw (lt-leb (length f) at h, here, e)
+    after_found e = rw (lt-leb len at h, here, e)
 
 -- ---- a loop that makes an element of each site: those so far, in front of those of the sites to come
 
@@ -112,7 +127,8 @@ module _ {A : Type 0} (make : Site → A) where
   pub so_start : {whole rest : Contents Site} {left : ℕ} → whole ≡ rest → left ≡ most_records → SoFar whole [] rest left
   so_start {whole} {rest} e l = record { room = omega arith; goes_on = before_none whole ∙ ap (before []) e }
 
-  module _ {whole old : Contents Site} {xs : List A} {left : ℕ} (so : SoFar whole xs old left) (q : Result (Option Found) Refusal) (new : Contents Site) (step : old ≡ came q new) where
+  module _ (list : List ℕ) {whole old : Contents Site} {xs : List A} {left : ℕ} (so : SoFar whole xs old left) (q : Result (Option FieldsFound) Refusal) (new : Contents Site)
+      (step : old ≡ came list q new) where
     pub so_end : q ≡ Ok None → made_of make whole ≡ Ok xs
     unfolding before came
     so_end e = so.goes_on ∙ rw (step, e, append-nil)
@@ -121,12 +137,19 @@ module _ {A : Type 0} (make : Site → A) where
     unfolding before came
     so_fault e = made_fault whole (so.goes_on ∙ rw (step, e))
 
-    module _ {x : Found} (e : q ≡ Ok (Some x)) (after : ℕ) (takes : left ≡ after + given q) where
-      pub so_more : SoFar whole (xs ++ (make x.site ∷ [])) new after
-      unfolding came
-      so_more = record {
+    module _ {x : FieldsFound} (e : q ≡ Ok (Some x)) where
+      -- rule 21 is broken
+      pub so_lost : {r : Refusal} → load_rule (terms_of list x.checked.site) ≡ Err r.rule → r.at ≡ x.next - dioxide_length → whole ≡ Err r
+      unfolding before came unless
+      so_lost l o = made_fault whole (so.goes_on ∙ rw (step, e, l, ← o))
+
+      -- or passes
+      pub so_more : load_rule (terms_of list x.checked.site) ≡ Ok tt → (after : ℕ) → left ≡ after + given q
+          → SoFar whole (xs ++ (make x.checked.site ∷ [])) new after
+      unfolding came unless
+      so_more l after takes = record {
         room = simp length-append (omega (arith, so.room, rw e at takes));
-        goes_on = so.goes_on ∙ rw (step, e) (before_first xs x.site new);
+        goes_on = so.goes_on ∙ rw (step, e, l) (before_first xs x.checked.site new);
       }
 
 -- the numbers of what is made are those of the file

@@ -2,11 +2,13 @@
 use Rattle.std.specs.Prelude.{ℕ, zero, suc, ◌+◌, ◌*◌, List, [], ◌∷◌, leb, length, map, Result, Ok, Err}
 use Rattle.site.specs.Ranges.{most_records}
 use Rattle.site.specs.Choice.{pick}
+use Rattle.site.specs.declared.RecordKind.{RecordKind}
+use Rattle.site.specs.declared.RecordKind.TheVariants.{Tag55}
 use Rattle.site.specs.declared.Site.{Site}
 use Rattle.site.specs.declared.Refusal.{Refusal}
 use Rattle.site.specs.declared.Rule.TheVariants.{NoBytes, TooMany}
 use Rattle.record.specs.Records.{most_record}
-use Rattle.record.specs.Outer.{site_at}
+use Rattle.record.specs.Outer.{site_to}
 
 -- what a file holds: the values of its records, or the first refusal
 abbrev pub Contents : Type 0 → Type 0
@@ -47,6 +49,10 @@ made_of make (Err r) = Err r
 abbrev pub most_file : ℕ
 most_file = most_records * most_record + 1
 
--- a file of site records: 1 to 500, with the list that is lent
-unfoldable pub contents : (list f : List ℕ) → Contents Site
-contents list f = contents_by most_records (site_at list f) (length f)
+-- a file of site records: 1 to 500, each of a kind up to the newest, with the list that is lent
+unfoldable pub contents_to : RecordKind → (list f : List ℕ) → Contents Site
+contents_to newest list f = contents_by most_records (site_to newest list f) (length f)
+
+-- of any kinds
+abbrev pub contents : (list f : List ℕ) → Contents Site
+contents list f = contents_to Tag55 list f

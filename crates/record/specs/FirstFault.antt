@@ -8,6 +8,7 @@ use Rattle.field.specs.Kind.{Kind, field_rule}
 use Rattle.record.specs.FieldParts.{stated_len, value_at, rest_at}
 use Rattle.record.specs.Fields.{head_rule}
 use Rattle.site.specs.declared.Site.{Site}
+use Rattle.site.specs.declared.RecordKind.{RecordKind}
 use Rattle.site.specs.declared.RecordKind.TheVariants.{Tag55}
 use Rattle.loads.specs.SiteTerms.{terms_of}
 use Rattle.loads.specs.MaxS.{load_rule}
@@ -54,10 +55,10 @@ pub record InnerBroken {A : Type 0} (known : ℕ → Bool) (K : Kind A) (bs : Li
   pub inner : FirstField K K.due K.blank (value_at bs) (start + 3) r
 
 -- its fields are all accepted, none but those of its kind, and lead from `start` to `next`; but rule 21 is broken, at the first byte of field 11, which ends it
-pub record LoadBroken (list f : List ℕ) (start : ℕ) (r : Refusal) : Type 0 where
+pub record LoadBroken (newest : RecordKind) (list f : List ℕ) (start : ℕ) (r : Refusal) : Type 0 where
   pub site : Site
   pub next : ℕ
-  pub accepted : fields_at list f start ≡ Ok (site, next)
+  pub accepted : fields_at newest list f start ≡ Ok (site, next)
   pub broken : load_rule (terms_of list site) ≡ Err r.rule
   pub offset : r.at ≡ next - dioxide_length
 

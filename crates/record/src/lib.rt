@@ -2,6 +2,7 @@
 #![tactic(auto)]
 
 mod bytes;
+mod found;
 mod inner;
 mod outer;
 mod put;
@@ -9,16 +10,7 @@ mod records;
 mod value;
 mod writer;
 
-use loads::Loads;
+pub use found::{FieldsFound, Found};
 pub use outer::{read_at, read_record};
 pub use records::{Records, read_sites};
-use site::Site;
 pub use writer::{put_record, record_len, write_record};
-
-// A record of a file with its loads, which its last check works out, and where the next one starts.
-#[derive(Clone, Copy)]
-pub struct Found {
-    pub site: Site,
-    pub loads: Loads,
-    pub next: usize,
-}

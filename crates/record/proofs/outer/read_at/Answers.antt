@@ -1,51 +1,21 @@
--- A broken outer field ends the reading; one that passes lies within the file, and so do the fields inside it.
-use Rattle.std.proofs.Common.{◌≡◌, get_or, Ok, Err, sym, arith, rules}
+use Rattle.std.proofs.Common.{arith}
 use Rattle.std.proofs.lemmas.Result.{err_from_is_err_and}
-use Rattle.site.specs.Kinds.{kind_by}
-use Rattle.site.specs.Refusal.{and_then}
-use Rattle.record.specs.Outer.{site_tag}
-use Rattle.record.specs.Records.{outer_rule}
-use Rattle.record.proofs.OuterLaws.{fields_pass, record_broken, record_refused, record_lost, record_whole}
+use Rattle.record.proofs.OuterLaws.{record_refused, record_lost, record_whole}
 use Rattle.record.proofs.Place.{found_answers}
 use Rattle.record.proofs.outer.read_at.Goals as goal
 
-pub returns-in_err-kind : goal.returns-in_err-kind
-returns-in_err-kind c =
-    let r = c.in_err-kind.field-0.0 in
-    let bs = c.bytes_from-rest.result.now in
-    let broken : and_then (outer_rule site_tag bs) (kind_by (get_or bs 0 0)) ≡ Err r.rule = search rules in
-    let said : c.from_residual.result ≡ Err (record { rule = r.rule; at = c.args.at }) = search rules in
-    found_answers _ _ _ _ (λ i. omega (arith, c.type_inv.file i)) (rw said (record_broken _ _ _ _ c.bytes_from-rest.ensures.bytes _ broken))
+pub returns-in_err-found : goal.returns-in_err-found
+returns-in_err-found c =
+    let p = err_from_is_err_and c.from_residual.result c.from_residual.ensures.1 in
+    found_answers _ _ _ _ (λ i. omega (arith, c.type_inv.file i)) (rw (p.1, p.2) (record_refused _ _ _ c.in_err-found.ensures))
 
-pub returns-in_err-site : goal.returns-in_err-site
-returns-in_err-site c =
-    let p = err_from_is_err_and c.from_residual-in_err-site.result c.from_residual-in_err-site.ensures.1 in
-    let bs = c.bytes_from-rest.result.now in
-    let k = c.in_ok-kind.kind in
-    let read : and_then (outer_rule site_tag bs) (kind_by (get_or bs 0 0)) ≡ Ok k = search rules in
-    let e = record_refused _ _ _ _ c.bytes_from-rest.ensures.bytes k read _ (omega arith) _ (sym c.in_err-site.ensures) in
-    found_answers _ _ _ _ (λ i. omega (arith, c.type_inv.file i)) (rw (p.1, p.2) e)
-
-pub invariant_of-check_load : goal.invariant_of-check_load
-invariant_of-check_load c =
-    let bs = c.bytes_from-rest.result.now in
-    let k = c.in_ok-kind.kind in
-    let read : and_then (outer_rule site_tag bs) (kind_by (get_or bs 0 0)) ≡ Ok k = search rules in
-    record { passed = fields_pass _ _ _ _ c.bytes_from-rest.ensures.bytes k read _ (omega arith) _ (sym c.in_ok-site.ensures) }
-
-pub returns-in_err-loads : goal.returns-in_err-loads
-returns-in_err-loads c =
-    let p = err_from_is_err_and c.from_residual-in_err-loads.result c.from_residual-in_err-loads.ensures.1 in
-    let bs = c.bytes_from-rest.result.now in
-    let k = c.in_ok-kind.kind in
-    let read : and_then (outer_rule site_tag bs) (kind_by (get_or bs 0 0)) ≡ Ok k = search rules in
-    found_answers _ _ _ _ (λ i. omega (arith, c.type_inv.file i))
-    (rw (p.1, p.2) (record_lost _ _ _ _ c.bytes_from-rest.ensures.bytes k read _ (omega arith) _ (sym c.in_ok-site.ensures) _ c.in_err-loads.ensures.0 c.in_err-loads.ensures.1))
+pub returns-in_err-check_load : goal.returns-in_err-check_load
+returns-in_err-check_load c =
+    let p = err_from_is_err_and c.from_residual-in_err-check_load.result c.from_residual-in_err-check_load.ensures.1 in
+    let l = rw c.in_ok-found.ensures.1 at c.in_err-check_load.ensures.0 in
+    found_answers _ _ _ _ (λ i. omega (arith, c.type_inv.file i)) (rw (p.1, p.2) (record_lost _ _ _ c.in_ok-found.ensures.0 _ l c.in_err-check_load.ensures.1))
 
 pub returns : goal.returns
 returns c =
-    let bs = c.bytes_from-rest.result.now in
-    let k = c.in_ok-kind.kind in
-    let read : and_then (outer_rule site_tag bs) (kind_by (get_or bs 0 0)) ≡ Ok k = search rules in
-    found_answers _ _ _ _ (λ i. omega (arith, c.type_inv.file i))
-    (rw c.in_ok-loads.ensures.1 (record_whole _ _ _ _ c.bytes_from-rest.ensures.bytes k read _ (omega arith) _ (sym c.in_ok-site.ensures) c.in_ok-loads.ensures.0))
+    let l = rw c.in_ok-found.ensures.1 at c.in_ok-check_load.ensures in
+    found_answers _ _ _ _ (λ i. omega (arith, c.type_inv.file i)) (record_whole _ _ _ c.in_ok-found.ensures.0 l)

@@ -1,0 +1,15 @@
+use Rattle.std.proofs.lemmas.Result.{err_from_is_err_and}
+use Rattle.judgement.proofs.JudgementAnswers.{refused_for, judged_for}
+use Rattle.judgement.proofs.WithoutBicarbonateLaws.{judged_unlost}
+use Rattle.judgement.proofs.judging.judge.Goals as goal
+
+pub returns-in_err-checked-clause-below_zero : goal.returns-in_err-checked-clause-below_zero
+returns-in_err-checked-clause-below_zero c =
+    let p = err_from_is_err_and c.from_residual.result c.from_residual.ensures.1 in
+    λ fields. rw (p.1, p.2) (refused_for _ _ fields _ c.in_err-checked.ensures)
+
+pub returns-clause-below_zero : goal.returns-clause-below_zero
+returns-clause-below_zero c = λ fields. judged_for _ _ fields _ c.in_ok-checked.ensures.0
+
+pub returns-clause-unlost : goal.returns-clause-unlost
+returns-clause-unlost c = λ j e none. judged_unlost _ _ none c.in_ok-checked.ensures.0 c.judge_passed.result j (rw (c.judge_passed.ensures.answer, c.in_ok-checked.ensures.1, c.in_ok-checked.ensures.2)) e
