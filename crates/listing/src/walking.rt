@@ -7,8 +7,8 @@ ghost use Rattle.listing.specs.Rows.{row_by, row_of, walked_of};
 use arrayvec::ArrayVec;
 use judgement::{Judged, judge_passed};
 use loads::PassedSite;
-use record::{Found, Records};
-use site::{Refusal, Site, SpeciesList};
+use record::Records;
+use site::{RecordKind, Refusal, Site, SpeciesList};
 use text::Row;
 
 #[tactic(auto, unfolding(crate::specs::Rows::row_by))]
@@ -35,11 +35,10 @@ pub fn walk_file(file: &[u8], list: SpeciesList<'_>) -> Result<ArrayVec<Row, 500
     ensures answer { let l = list.entry.bytes.now in MatchResult result (λ rows. walked_of l (contents l file.now) ≡ Ok rows.items) (λ refusal. walked_of l (contents l file.now) ≡ Err refusal) }
     ensures numbers { result_numbers result ≡ result_numbers (contents list.entry.bytes.now file.now) }
 {
-    let mut records = Records::of(file, list)?;
+    let mut records = Records::of(RecordKind::Tag55, file, list)?;
     let mut rows = ArrayVec::new();
-    while let Some(Found { site, loads, .. }) = records.next()? {
-        // a site that was read passes the check, and its loads are worked out
-        rows.push(row_of(PassedSite { site, list, loads }));
+    while let Some(found) = records.next()? {
+        rows.push(row_of(found.passed()?));
     }
     Ok(rows)
 }
