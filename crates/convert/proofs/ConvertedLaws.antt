@@ -1,5 +1,6 @@
 -- Where all sites convert each is moved, and else 17 names the first field that does not.
 use mathlib.Core.Path.{◌≡◌, refl, sym, ap, ◌∙◌}
+use mathlib.Core.Bool.{false}
 use mathlib.Core.List.{List, [], ◌∷◌, ◌++◌, map}
 use Prim.Native.Nat.{ℕ, suc, ◌+◌, ◌*◌, ◌≤◌, ◌<◌}
 use native.Mathlib.Omega.{arith}
@@ -8,7 +9,9 @@ use lib.Seq.{drop-cons}
 use Rattle.std.specs.Prelude.{Result, Ok, Err, flat_map}
 use Rattle.std.proofs.lemmas.List.{take_more, take-append-drop}
 use Rattle.site.specs.Refusal.{Checked, unless}
+use Rattle.site.specs.Kinds.{has_dioxide}
 use Rattle.site.specs.declared.RecordKind.{RecordKind}
+use Rattle.site.specs.declared.RecordKind.TheVariants.{Tag52, Tag53, Tag54, Tag55}
 use Rattle.site.specs.declared.Refusal.{Refusal}
 use Rattle.site.specs.declared.Site.{Site}
 use Rattle.field.specs.Field.{blank_site}
@@ -16,12 +19,13 @@ use Rattle.field.proofs.All.{All, none, ◌▸◌, all_append, all_at}
 use Rattle.output.proofs.EachLaws.{length_more}
 use Rattle.record.specs.File.{Contents, first}
 use Rattle.record.specs.Writer.{encode, most_site_record}
+use Rattle.convert.specs.declared.targets.Target.{Target}
 use Rattle.convert.specs.Moved.{moved, species_convertible, temperature_convertible, Converts, field_start}
 use Rattle.convert.specs.Converted.{if_convertible, all_moved, moved_record, file_of, Inconvertible, stand, temperature, FirstInconvertible}
 
 -- ---- one record: it converts, or one of its two fields breaks rule 17
 
-module _ (k : RecordKind) (s : Site) (at : ℕ) where
+module _ (k : Target) (s : Site) (at : ℕ) where
   data Said : Type 0 where
     converts : Converts k s → Said
     breaks : (r : Refusal) → Inconvertible k at s r → Said
@@ -46,7 +50,7 @@ module _ (k : RecordKind) (s : Site) (at : ℕ) where
 
 -- ---- the records of a file
 
-module _ (k : RecordKind) where
+module _ (k : Target) where
   pub all_converts : (ss : List Site) → All (Converts k) ss → (at : ℕ) → all_moved k at ss ≡ Ok (map (moved k) ss)
   unfolding all_moved first
   all_converts [] none at = refl
@@ -117,16 +121,23 @@ module _ (k : RecordKind) where
         here = rw start at x.here;
       }
 
+-- no record without field 11 is longer than the greatest of kind 54
+pub old_short : (j : RecordKind) → has_dioxide j ≡ false → most_site_record j ≤ most_site_record Tag54
+old_short Tag52 o = omega arith
+old_short Tag53 o = omega arith
+old_short Tag54 o = omega arith
+old_short Tag55 o = cc
+
 -- ---- the loop over the sites of a file
 
 -- what it knows of the sites so far: they convert, their records end at the offset `at`, and moved they have `len` bytes; each record has at most 104
-pub record MovedSoFar (k : RecordKind) (ss : List Site) (at len : ℕ) : Type 0 where
+pub record MovedSoFar (k : Target) (ss : List Site) (at len : ℕ) : Type 0 where
   pub converts : All (Converts k) ss
   pub start : at ≡ length (file_of ss)
   pub bytes : len ≡ length (flat_map (moved_record k) ss)
-  pub few : (at ≤ most_site_record * length ss) × (len ≤ most_site_record * length ss)
+  pub few : (at ≤ most_site_record Tag54 * length ss) × (len ≤ most_site_record Tag54 * length ss)
 
-module _ (k : RecordKind) where
+module _ (k : Target) where
   pub moved_start : MovedSoFar k [] 0 0
   moved_start = record { converts = none; start = refl; bytes = refl; few = (omega arith, omega arith) }
 
@@ -164,7 +175,7 @@ module _ (k : RecordKind) where
         rw whole at (past (take i ss) (s ∷ rest) so.converts 0 (rw start at here))
 
     pub moved_more : if_convertible {A = Unit {0}} k (get_or ss i d) at (Ok tt) ≡ Ok tt → (n m : ℕ) → n ≡ length (encode (get_or ss i d)) → m ≡ length (moved_record k (get_or ss i d))
-        → n ≤ most_site_record → m ≤ most_site_record → MovedSoFar k (take (i + 1) ss) (at + n) (len + m)
+        → n ≤ most_site_record Tag54 → m ≤ most_site_record Tag54 → MovedSoFar k (take (i + 1) ss) (at + n) (len + m)
     moved_more e n m p q few_n few_m =
         let long : length (take (i + 1) ss) ≡ length (take i ss) + 1 = simp length-take (omega arith) in
         record {

@@ -15,7 +15,7 @@ use Rattle.site.specs.Choice.{pick}
 use Rattle.site.specs.Kinds.{due, has_temperature, reference_temperature, counted_temperature}
 use Rattle.site.specs.Refusal.{Checked, unless}
 use Rattle.site.specs.declared.RecordKind.{RecordKind}
-use Rattle.site.specs.declared.RecordKind.TheVariants.{Tag52, Tag53, Tag54}
+use Rattle.site.specs.declared.RecordKind.TheVariants.{Tag52, Tag53, Tag54, Tag55}
 use Rattle.site.specs.declared.Refusal.{Refusal}
 use Rattle.site.specs.declared.Rule.{Rule}
 use Rattle.site.specs.declared.Rule.TheVariants.{NotConvertible}
@@ -23,7 +23,9 @@ use Rattle.site.specs.declared.Site.{Site}
 use Rattle.record.specs.File.{contents}
 use Rattle.record.specs.Writer.{encode}
 use Rattle.record.proofs.SiteFile.{sites_written}
-use Rattle.convert.specs.Moved.{convertible, species_convertible, temperature_convertible, field_start}
+use Rattle.convert.specs.declared.targets.Target.{Target}
+use Rattle.convert.specs.Target.{kind_of}
+use Rattle.convert.specs.Moved.{Older, convertible, species_convertible, temperature_convertible, field_start}
 use Rattle.convert.specs.Converted.{if_convertible, all_moved, file_of, Inconvertible, stand, temperature, FirstInconvertible}
 use Rattle.convert.proofs.ConvertedLaws.{first_inconvertible}
 use Rattle.convert.proofs.FieldStarts.{starts, stand_start, temperature_start}
@@ -33,27 +35,30 @@ not_convertible true e = cc
 not_convertible false e = cc
 
 -- a site whose temperature a record without field 10 cannot hold has this field
-pub has_field_10 : (k : RecordKind) (s : Site) {r : Rule} → temperature_convertible k s ≡ Err r → has_temperature s.kind ≡ true
+pub has_field_10 : (k : Target) (s : Site) {r : Rule} → temperature_convertible k s ≡ Err r → has_temperature s.kind ≡ true
 unfolding temperature_convertible counted_temperature
 has_field_10 k s {r} e = by_kind s.kind e
   where
-    by_kind : (j : RecordKind) → convertible (has_temperature k || eqb (pick (has_temperature j) s.temperature reference_temperature) reference_temperature) ≡ Err r → has_temperature j ≡ true
+    by_kind : (j : RecordKind) → convertible (has_temperature (kind_of k) || eqb (pick (has_temperature j) s.temperature reference_temperature) reference_temperature) ≡ Err r → has_temperature j ≡ true
     by_kind Tag52 e = let passed = rw or-true at e in cc
     by_kind Tag53 e = refl
     by_kind Tag54 e = refl
+    by_kind Tag55 e = refl
 
 -- where the two fields stand among those that are due
 stand_due : (k : RecordKind) → due k ≡ take 6 (due k) ++ 7 ∷ drop 7 (due k)
 stand_due Tag52 = refl
 stand_due Tag53 = refl
 stand_due Tag54 = refl
+stand_due Tag55 = refl
 
 temperature_due : (k : RecordKind) → has_temperature k ≡ true → due k ≡ take 15 (due k) ++ 16 ∷ drop 16 (due k)
 temperature_due Tag52 has = cc
 temperature_due Tag53 has = refl
 temperature_due Tag54 has = refl
+temperature_due Tag55 has = refl
 
-module _ (list f : List ℕ) (b : AllBytes f) (k : RecordKind) (ss : List Site) (e : contents list f ≡ Ok ss) {r : Refusal} (fault : all_moved k 0 ss ≡ Err r) where
+module _ (list f : List ℕ) (b : AllBytes f) (k : Target) (ss : List Site) (e : contents list f ≡ Ok ss) {r : Refusal} (fault : all_moved k 0 ss ≡ Err r) where
   pub first : FirstInconvertible k ss r
   first = first_inconvertible k ss fault
 
@@ -85,16 +90,16 @@ module _ (list f : List ℕ) (b : AllBytes f) (k : RecordKind) (ss : List Site) 
           let is = not_convertible _ broken in (is, inr (passed, (broken ∙ ap Err is, there 16 (temperature_due first.site.kind (has_field_10 k first.site broken)) at)))
 
 -- rule 17 by what the fields say: field 07 starts behind the name, and field 10, where it breaks the rule, 4 bytes before the record's end
-pub convertible_by_field : (k : RecordKind) (s : Site) (at n : ℕ) → n ≡ length (encode s)
+pub convertible_by_field : (k : Target) (s : Site) → Older s → (at n : ℕ) → n ≡ length (encode s)
     → if_convertible {A = Unit {0}} k s at (Ok tt) ≡ unless (species_convertible k s) (at + 28 + length (take s.name.len s.name.bytes)) (unless (temperature_convertible k s) (at + n - 4) (Ok tt))
 unfolding if_convertible unless
-convertible_by_field k s at n e = by_rules (species_convertible k s) (temperature_convertible k s) refl
+convertible_by_field k s old at n e = by_rules (species_convertible k s) (temperature_convertible k s) refl
   where
     stand_at : at + field_start 7 s ≡ at + 28 + length (take s.name.len s.name.bytes)
     stand_at = omega (arith, stand_start s)
 
     temperature_at : {r : Rule} → temperature_convertible k s ≡ Err r → at + field_start 16 s ≡ at + n - 4
-    temperature_at broken = omega (arith, temperature_start s (has_field_10 k s broken))
+    temperature_at broken = omega (arith, temperature_start s (has_field_10 k s broken) old)
 
     by_rules : (a b : Checked) → temperature_convertible k s ≡ b
         → unless {A = Unit {0}} a (at + field_start 7 s) (unless b (at + field_start 16 s) (Ok tt)) ≡ unless a (at + 28 + length (take s.name.len s.name.bytes)) (unless b (at + n - 4) (Ok tt))

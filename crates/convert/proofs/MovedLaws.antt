@@ -11,8 +11,10 @@ use Rattle.std.specs.List.{list_all}
 use Rattle.std.proofs.lemmas.List.{length-replicate}
 use Rattle.std.specs.Prelude.{Ok}
 use Rattle.site.specs.Bounds.{no_entry}
-use Rattle.site.specs.Check.{site_rule}
-use Rattle.site.specs.Kinds.{due, two_byte_species, has_temperature, reference_temperature, counted_temperature}
+use Rattle.site.specs.Check.{due_rule}
+use Rattle.loads.specs.Check.{site_rule}
+use Rattle.loads.specs.MaxS.{load_rule}
+use Rattle.site.specs.Kinds.{due, two_byte_species, has_temperature, reference_temperature, counted_temperature, has_dioxide, counted_dioxide}
 use Rattle.site.specs.OneSite.{OneSite}
 use Rattle.site.specs.Ranges.{most_species, listed_range, share_range, most_yield, temperature_range}
 use Rattle.site.specs.Choice.{pick}
@@ -20,7 +22,7 @@ use Rattle.site.specs.Refusal.{and_then}
 use Rattle.site.specs.Values.{count_rule, item_count, value_rule, between, inside, species_ranged, entry_ranged, entries_rule, known_rule, stand_rule}
 use Rattle.site.specs.declared.Entry.{Entry}
 use Rattle.site.specs.declared.RecordKind.{RecordKind}
-use Rattle.site.specs.declared.RecordKind.TheVariants.{Tag52, Tag53, Tag54}
+use Rattle.site.specs.declared.RecordKind.TheVariants.{Tag52, Tag53, Tag54, Tag55}
 use Rattle.site.specs.declared.Rule.TheVariants.{OutOfRange, NotConvertible}
 use Rattle.site.specs.declared.Site.{Site}
 use Rattle.site.proofs.FieldLaws.{site_passed, due_passed}
@@ -29,6 +31,8 @@ use Rattle.site.proofs.BoundsLaw.{site_ranged}
 use Rattle.site.proofs.NarrowLaws.{narrow_species, narrow_site}
 use Rattle.site.proofs.Tests.{and_l, and_r}
 use Rattle.loads.specs.SiteTerms.{terms_of}
+use Rattle.loads.proofs.CheckLaws.{passed_fields, passed_load, last_passed}
+use Rattle.loads.proofs.WithoutBicarbonateLaws.{none_counted}
 use Rattle.loads.proofs.ListedLaws.{narrow_terms}
 use Rattle.loads.proofs.OneSiteLaws.{terms_same, one_with}
 use Rattle.judgement.specs.Answers.{judged_of}
@@ -36,29 +40,48 @@ use Rattle.field.specs.Clean.{clean, Sized}
 use Rattle.field.proofs.All.{All, none, ◌▸◌, all_append}
 use Rattle.record.proofs.SiteTrips.{fields_passed}
 use Rattle.listing.specs.Rows.{row_by, row_of}
-use Rattle.convert.specs.Moved.{moved, convertible, small, species_convertible, temperature_convertible, Converts}
+use Rattle.convert.specs.declared.targets.Target.{Target}
+use Rattle.convert.specs.Target.{kind_of}
+use Rattle.convert.specs.declared.targets.Target.TheVariants.{Kind52, Kind53, Kind54}
+use Rattle.convert.specs.Moved.{moved, Older, convertible, small, species_convertible, temperature_convertible, Converts}
 
 -- what rule 17 says where it passes
 convertible_true : (b : Bool) → convertible b ≡ Ok tt → b ≡ true
 convertible_true b e = (pass_then b NotConvertible (Ok tt) e).0
 
--- ---- the temperature that counts stays
+-- no target has the field 11
+pub old_target : (k : Target) → has_dioxide (kind_of k) ≡ false
+old_target Kind52 = refl
+old_target Kind53 = refl
+old_target Kind54 = refl
 
-module _ (k : RecordKind) (s : Site) (held : temperature_convertible k s ≡ Ok tt) where
+pub old_moved : (k : Target) (s : Site) → Older (moved k s)
+unfolding moved
+old_moved k s = old_target k
+
+-- ---- the temperature that counts stays, and no carbon dioxide comes
+
+module _ (k : Target) (s : Site) (held : temperature_convertible k s ≡ Ok tt) where
   pub counted_moved : counted_temperature (moved k s) ≡ counted_temperature s
   unfolding counted_temperature temperature_convertible moved
   counted_moved = by_kind k (convertible_true _ held)
     where
-      by_kind : (j : RecordKind) → has_temperature j || eqb (counted_temperature s) reference_temperature ≡ true
-          → counted_temperature (record s { kind = j; temperature = counted_temperature s }) ≡ counted_temperature s
-      by_kind Tag52 e = sym (eqb-true (counted_temperature s) reference_temperature e)
-      by_kind Tag53 e = refl
-      by_kind Tag54 e = refl
+      by_kind : (j : Target) → has_temperature (kind_of j) || eqb (counted_temperature s) reference_temperature ≡ true
+          → counted_temperature (record s { kind = kind_of j; temperature = counted_temperature s }) ≡ counted_temperature s
+      by_kind Kind52 e = sym (eqb-true (counted_temperature s) reference_temperature e)
+      by_kind Kind53 e = refl
+      by_kind Kind54 e = refl
 
+-- neither has any
+pub dioxide_moved : (k : Target) (s : Site) → Older s → counted_dioxide (moved k s) ≡ counted_dioxide s
+unfolding moved
+dioxide_moved k s o = none_counted [] (record s { kind = kind_of k; temperature = counted_temperature s }) (old_target k) ∙ sym (none_counted [] s o)
+
+module _ (k : Target) (s : Site) (o : Older s) (held : temperature_convertible k s ≡ Ok tt) where
   -- so it is one site with the one it comes from
   pub one_moved : OneSite (moved k s) s
   unfolding moved
-  one_moved = one_with s k s.name s.sulphur s.nitrogen (counted_temperature s) counted_moved
+  one_moved = one_with s (kind_of k) s.name s.sulphur s.nitrogen (counted_temperature s) s.dioxide (counted_moved k s held) (dioxide_moved k s o)
 
   module _ (list : List ℕ) where
     -- and has the same terms
@@ -119,27 +142,30 @@ stand_moved list j k es p q =
 -- ---- it passes the check
 
 -- something of every field: of 01 to 0F, and of 10
-due_all : {P : ℕ → Type 0} → All P (due Tag52) → P 16 → (k : RecordKind) → All P (due k)
-due_all ps p Tag52 = ps
-due_all ps p Tag53 = all_append ps (p ▸ none)
-due_all ps p Tag54 = all_append ps (p ▸ none)
+due_all : {P : ℕ → Type 0} → All P (due Tag52) → P 16 → (k : Target) → All P (due (kind_of k))
+due_all ps p Kind52 = ps
+due_all ps p Kind53 = all_append ps (p ▸ none)
+due_all ps p Kind54 = all_append ps (p ▸ none)
 
-module _ (list : List ℕ) (k : RecordKind) (s : Site) (e : site_rule list s ≡ Ok tt) (c : Converts k s) where
+module _ (list : List ℕ) (k : Target) (s : Site) (e : site_rule list s ≡ Ok tt) (c : Converts k s) where
+  fields : due_rule list s ≡ Ok tt
+  fields = passed_fields list s e
+
   -- the rules of field t
   abbrev Passes : ℕ → Type 0
-  Passes t = (count_rule t (moved k s) ≡ Ok tt) × (value_rule list k t (moved k s) ≡ Ok tt)
+  Passes t = (count_rule t (moved k s) ≡ Ok tt) × (value_rule list (kind_of k) t (moved k s) ≡ Ok tt)
 
-  wide : two_byte_species k || list_all small (take s.stand.count s.stand.entries) ≡ true
+  wide : two_byte_species (kind_of k) || list_all small (take s.stand.count s.stand.entries) ≡ true
   unfolding species_convertible
   wide = convertible_true _ c.species
 
   -- a field of 01 to 0F that has the rules of the site it comes from: all but the stand
   kept : (t : ℕ) → 1 ≤ t → t ≤ 15 → (count_rule t s ≡ Ok tt) × (value_rule list s.kind t s ≡ Ok tt)
-  kept t some most = site_passed list s e t some most
+  kept t some most = site_passed list s fields t some most
 
   stand_kept : Passes 7
   unfolding moved count_rule item_count value_rule
-  stand_kept = let p = kept 7 (omega arith) (omega arith) in (p.0, stand_moved list s.kind k (take s.stand.count s.stand.entries) p.1 wide)
+  stand_kept = let p = kept 7 (omega arith) (omega arith) in (p.0, stand_moved list s.kind (kind_of k) (take s.stand.count s.stand.entries) p.1 wide)
 
   fifteen : All Passes (due Tag52)
   unfolding moved count_rule item_count value_rule
@@ -156,16 +182,23 @@ module _ (list : List ℕ) (k : RecordKind) (s : Site) (e : site_rule list s ≡
     where
       by_kind : (j : RecordKind) → s.kind ≡ j → between temperature_range (pick (has_temperature j) s.temperature reference_temperature) ≡ Ok tt
       by_kind Tag52 is = refl
-      by_kind Tag53 is = (due_passed list s e 16 (omega arith) (rw is (omega arith))).1
-      by_kind Tag54 is = (due_passed list s e 16 (omega arith) (rw is (omega arith))).1
+      by_kind Tag53 is = (due_passed list s fields 16 (omega arith) (rw is (omega arith))).1
+      by_kind Tag54 is = (due_passed list s fields 16 (omega arith) (rw is (omega arith))).1
+      by_kind Tag55 is = (due_passed list s fields 16 (omega arith) (rw is (omega arith))).1
 
   sixteen : Passes 16
   unfolding moved count_rule item_count value_rule
   sixteen = (refl, counted_ranged)
 
-  pub moved_passes : site_rule list (moved k s) ≡ Ok tt
-  unfolding site_rule moved
-  moved_passes = fields_passed list k (due k) (moved k s) (due_all fifteen sixteen k)
+  moved_due : due_rule list (moved k s) ≡ Ok tt
+  unfolding due_rule moved
+  moved_due = fields_passed list (kind_of k) (due (kind_of k)) (moved k s) (due_all fifteen sixteen k)
+
+  -- rule 21 says of it what it says of the site, whose terms it has
+  pub moved_passes : Older s → site_rule list (moved k s) ≡ Ok tt
+  moved_passes o =
+      let same = moved_terms k s o c.temperature list in
+      last_passed list (moved k s) moved_due (ap load_rule same ∙ passed_load list s e)
 
 -- ---- it comes back as it was
 
@@ -185,26 +218,30 @@ module _ (s : Site) (tidy : clean s ≡ s) where
     stand = ap (λ (x : Site). length x.stand.entries) (sym tidy) ∙ padded 4 (take s.stand.count s.stand.entries) no_entry;
   }
 
-  pub moved_itself : moved s.kind s ≡ s
-  unfolding moved
-  moved_itself = rw counted_here
+  dioxide_here : counted_dioxide s ≡ s.dioxide
+  unfolding clean
+  dioxide_here = ap (λ (x : Site). x.dioxide) tidy
 
-  module _ (k : RecordKind) where
+  pub moved_itself : (k : Target) → s.kind ≡ kind_of k → moved k s ≡ s
+  unfolding moved
+  moved_itself k is = rw (counted_here, ← is)
+
+  module _ (k : Target) where
     pub moved_sized : Sized (moved k s)
     unfolding moved
     moved_sized = record { name = clean_sized.name; stand = clean_sized.stand }
 
     module _ (held : temperature_convertible k s ≡ Ok tt) where
-      pub moved_clean : clean (moved k s) ≡ moved k s
+      pub moved_clean : Older s → clean (moved k s) ≡ moved k s
       unfolding clean moved
-      moved_clean =
+      moved_clean o =
           let name : (clean s).name ≡ s.name = ap (λ (x : Site). x.name) tidy in
           let stand : (clean s).stand ≡ s.stand = ap (λ (x : Site). x.stand) tidy in
-          rw (name, stand, counted_moved k s held)
+          rw (name, stand, counted_moved k s held, dioxide_moved k s o, dioxide_here)
 
-      pub moved_back : moved s.kind (moved k s) ≡ s
+      pub moved_back : (j : Target) → s.kind ≡ kind_of j → moved j (moved k s) ≡ s
       unfolding moved
-      moved_back = rw (counted_moved k s held, counted_here)
+      moved_back j is = rw (counted_moved k s held, counted_here, ← is)
 
 -- the species of a kind that has one byte for them
 all_small : (k : RecordKind) → two_byte_species k ≡ false → (es : List Entry) → list_all (entry_ranged k) es ≡ true → list_all small es ≡ true
@@ -214,38 +251,43 @@ all_small k narrow (x ∷ xs) p =
     rw (lt-ltb x.species 256 (omega arith)) (all_small k narrow xs (and_r (entry_ranged k x) (list_all (entry_ranged k) xs) p))
 
 module _ (list : List ℕ) (s : Site) (e : site_rule list s ≡ Ok tt) where
-  up_species : (k : RecordKind) → (two_byte_species s.kind ≡ true → two_byte_species k ≡ true) → species_convertible k s ≡ Ok tt
+  up_species : (k : Target) → (two_byte_species s.kind ≡ true → two_byte_species (kind_of k) ≡ true) → species_convertible k s ≡ Ok tt
   unfolding species_convertible
-  up_species k up = by_width (two_byte_species k) (two_byte_species s.kind) refl refl
+  up_species k up = by_width (two_byte_species (kind_of k)) (two_byte_species s.kind) refl refl
     where
-      by_width : (w v : Bool) → two_byte_species k ≡ w → two_byte_species s.kind ≡ v → convertible (two_byte_species k || list_all small (take s.stand.count s.stand.entries)) ≡ Ok tt
+      by_width : (w v : Bool) → two_byte_species (kind_of k) ≡ w → two_byte_species s.kind ≡ v → convertible (two_byte_species (kind_of k) || list_all small (take s.stand.count s.stand.entries)) ≡ Ok tt
       by_width true v wide from = rw wide
-      by_width false false narrow from = rw (narrow, all_small s.kind from (take s.stand.count s.stand.entries) (site_ranged list s e))
+      by_width false false narrow from = rw (narrow, all_small s.kind from (take s.stand.count s.stand.entries) (site_ranged list s (passed_fields list s e)))
       by_width false true narrow from = absurd (false≢true (sym narrow ∙ up from))
 
-  up_temperature : (k : RecordKind) → (has_temperature s.kind ≡ true → has_temperature k ≡ true) → temperature_convertible k s ≡ Ok tt
+  up_temperature : (k : Target) → (has_temperature s.kind ≡ true → has_temperature (kind_of k) ≡ true) → temperature_convertible k s ≡ Ok tt
   unfolding temperature_convertible counted_temperature
-  up_temperature k up = by_field (has_temperature k) (has_temperature s.kind) refl refl
+  up_temperature k up = by_field (has_temperature (kind_of k)) (has_temperature s.kind) refl refl
     where
-      by_field : (w v : Bool) → has_temperature k ≡ w → has_temperature s.kind ≡ v
-          → convertible (has_temperature k || eqb (pick (has_temperature s.kind) s.temperature reference_temperature) reference_temperature) ≡ Ok tt
+      by_field : (w v : Bool) → has_temperature (kind_of k) ≡ w → has_temperature s.kind ≡ v
+          → convertible (has_temperature (kind_of k) || eqb (pick (has_temperature s.kind) s.temperature reference_temperature) reference_temperature) ≡ Ok tt
       by_field true v has from = rw has
       by_field false false lacks from = rw (lacks, from)
       by_field false true lacks from = absurd (false≢true (sym lacks ∙ up from))
 
   -- into a kind that has two bytes for a species where the site's kind has them, and field 10 where that has it, every site that passes converts: up, and into the kind it has
-  pub up_converts : (k : RecordKind) → (two_byte_species s.kind ≡ true → two_byte_species k ≡ true) → (has_temperature s.kind ≡ true → has_temperature k ≡ true) → Converts k s
+  pub up_converts : (k : Target) → (two_byte_species s.kind ≡ true → two_byte_species (kind_of k) ≡ true) → (has_temperature s.kind ≡ true → has_temperature (kind_of k) ≡ true) → Converts k s
   up_converts k species temperature = record { species = up_species k species; temperature = up_temperature k temperature }
 
   -- and what has been moved can be moved back
-  pub back_converts : (k : RecordKind) → temperature_convertible k s ≡ Ok tt → Converts s.kind (moved k s)
+  pub back_converts : (k j : Target) → s.kind ≡ kind_of j → temperature_convertible k s ≡ Ok tt → Converts j (moved k s)
   unfolding species_convertible temperature_convertible moved
-  back_converts k held = record { species = up_species s.kind (λ w. w); temperature = rw (counted_moved k s held) (up_temperature s.kind (λ w. w)) }
+  back_converts k j is held = record {
+    species = up_species j (λ w. rw is at w);
+    temperature = rw (counted_moved k s held) (up_temperature j (λ w. rw is at w));
+  }
 
 -- a unit that knows no list: in kinds 52 and 53 a moved site passes with any list, and has the terms that the one it comes from has with its own
-pub moved_narrow : (list more : List ℕ) (k : RecordKind) (s : Site) → two_byte_species k ≡ false → site_rule list s ≡ Ok tt → Converts k s
+pub moved_narrow : (list more : List ℕ) (k : Target) (s : Site) → two_byte_species (kind_of k) ≡ false → site_rule list s ≡ Ok tt → Older s → Converts k s
     → (site_rule more (moved k s) ≡ Ok tt) × (terms_of more (moved k s) ≡ terms_of list s)
 unfolding moved
-moved_narrow list more k s narrow e c =
-    let passes = moved_passes list k s e c in
-    (narrow_site more list (moved k s) narrow ∙ passes, narrow_terms more list (moved k s) narrow (narrow_site more list (moved k s) narrow ∙ passes) ∙ moved_terms k s c.temperature list)
+moved_narrow list more k s narrow e o c =
+    let passes = moved_passes list k s e c o in
+    let fields = narrow_site more list (moved k s) narrow ∙ passed_fields list (moved k s) passes in
+    let same = narrow_terms more list (moved k s) narrow fields in
+    (last_passed more (moved k s) fields (ap load_rule same ∙ passed_load list (moved k s) passes), same ∙ moved_terms k s o c.temperature list)

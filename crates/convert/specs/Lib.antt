@@ -1,3 +1,4 @@
+pub mod Target
 pub mod Moved
 pub mod Converted
 pub mod SameRecords

@@ -3,5 +3,7 @@
 
 mod converting;
 mod moving;
+mod targets;
 
 pub use converting::convert;
+pub use targets::Target;

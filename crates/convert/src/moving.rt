@@ -2,18 +2,19 @@
 ghost use Rattle.std.specs.Prelude.{◌≡◌, ◌+◌, ◌<◌, ◌≤◌, ◌^◌, length, take, Ok};
 ghost use Rattle.std.specs.List.{list_all};
 ghost use Rattle.record.specs.Writer.{encode};
-ghost use Rattle.convert.specs.Moved.{moved, convertible, small, species_convertible, temperature_convertible};
+ghost use Rattle.convert.specs.Moved.{moved, Older, convertible, small, species_convertible, temperature_convertible};
 ghost use Rattle.convert.specs.Converted.{if_convertible};
 
-use site::{REFERENCE_TEMPERATURE, RecordKind, Refusal, Rule, Site, Stand};
+use crate::Target;
+use site::{REFERENCE_TEMPERATURE, Refusal, Rule, Site, Stand};
 
 // Every value stays, and the temperature is the one that counts.
 #[tactic(auto, unfolding(crate::specs::Moved::moved))]
-pub fn moved(kind: RecordKind, site: Site) -> Site
-    ensures { result ≡ moved kind site }
+pub fn moved(target: Target, site: Site) -> Site
+    ensures { result ≡ moved target site }
 {
     Site {
-        kind,
+        kind: target.kind(),
         temperature: site.counted_temperature(),
         ..site
     }
@@ -34,31 +35,32 @@ fn all_small(stand: &Stand) -> bool
 
 // Field 07: where a species has one byte, all are below 256.
 #[tactic(auto, unfolding(crate::specs::Moved::species_convertible))]
-fn species_convertible(kind: RecordKind, site: Site) -> Result<(), Rule>
-    ensures { result ≡ species_convertible kind site }
+fn species_convertible(target: Target, site: Site) -> Result<(), Rule>
+    ensures { result ≡ species_convertible target site }
 {
-    convertible(kind.two_byte_species() || all_small(&site.stand))
+    convertible(target.kind().two_byte_species() || all_small(&site.stand))
 }
 
 // Field 10: where a record has none, the temperature is 8 °C.
 #[tactic(auto, unfolding(crate::specs::Moved::temperature_convertible))]
-fn temperature_convertible(kind: RecordKind, site: Site) -> Result<(), Rule>
-    ensures { result ≡ temperature_convertible kind site }
+fn temperature_convertible(target: Target, site: Site) -> Result<(), Rule>
+    ensures { result ≡ temperature_convertible target site }
 {
-    convertible(kind.has_temperature() || site.counted_temperature() == REFERENCE_TEMPERATURE)
+    convertible(target.kind().has_temperature() || site.counted_temperature() == REFERENCE_TEMPERATURE)
 }
 
 // Rule 17 at the record of a site that starts at `at` of the file and is `len` bytes long. Field 07 starts 28 bytes and the name behind the start, field 10 with
-// its 4 bytes ends the record.
-pub fn check_convertible(kind: RecordKind, site: Site, at: usize, len: usize) -> Result<(), Refusal>
+// its 4 bytes ends a record without field 11.
+pub fn check_convertible(target: Target, site: Site, at: usize, len: usize) -> Result<(), Refusal>
+    requires older { Older site }
     requires length { len ≡ length (encode site) }
     requires range { (4 ≤ len) × (at + len < 2 ^ 63) }
-    ensures { result ≡ if_convertible kind site at (Ok tt) }
+    ensures { result ≡ if_convertible target site at (Ok tt) }
 {
     let stand = at + 28 + site.name.as_slice().len();
-    species_convertible(kind, site).map_err(|rule| Refusal { rule, at: stand })?;
+    species_convertible(target, site).map_err(|rule| Refusal { rule, at: stand })?;
     let temperature = at + len - 4;
-    temperature_convertible(kind, site).map_err(|rule| Refusal {
+    temperature_convertible(target, site).map_err(|rule| Refusal {
         rule,
         at: temperature,
     })

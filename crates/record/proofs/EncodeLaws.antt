@@ -99,12 +99,6 @@ fields_length Tag53 s = simp length-append (omega arith)
 fields_length Tag54 s = simp length-append (omega arith)
 fields_length Tag55 s = simp length-append (omega arith)
 
-added_few : (k : RecordKind) → added_length k ≤ 9
-added_few Tag52 = omega arith
-added_few Tag53 = omega arith
-added_few Tag54 = omega arith
-added_few Tag55 = omega arith
-
 -- and all of the record, whether the site passes or not
 pub record_length : (s : Site) → length (encode s)
     ≡ 3 + (69 + length (take s.name.len s.name.bytes) + entry_width s.kind * length (take s.stand.count s.stand.entries) + added_length s.kind)
@@ -114,21 +108,32 @@ record_length s = omega (arith, encode_length (site_kind [] s.kind) s, fields_le
 pub sized : (s : Site) → length s.name.bytes ≡ 8 → length s.stand.entries ≡ 4 → Sized s
 sized s n e = record { name = n; stand = e }
 
--- a product of which one part is 5 at most, the other 4
-few_bytes : (k : RecordKind) (n : ℕ) → n ≤ 4 → entry_width k * n ≤ 20
+-- the bytes of the entries
+few_bytes : (k : RecordKind) (n : ℕ) → n ≤ 4 → entry_width k * n ≤ 4 * entry_width k
 few_bytes Tag52 n h = omega arith
 few_bytes Tag53 n h = omega arith
 few_bytes Tag54 n h = omega arith
 few_bytes Tag55 n h = omega arith
 
-pub record_few : (s : Site) → Sized s → length (encode s) ≤ most_site_record
+pub record_few : (s : Site) → Sized s → length (encode s) ≤ most_site_record s.kind
 record_few s z =
     let n : length (take s.name.len s.name.bytes) ≤ 8 = simp length-take (omega (arith, z.name)) in
     let e : length (take s.stand.count s.stand.entries) ≤ 4 = simp length-take (omega (arith, z.stand)) in
-    omega (arith, record_length s, added_few s.kind, few_bytes s.kind (length (take s.stand.count s.stand.entries)) e)
+    let f : entry_width s.kind * length (take s.stand.count s.stand.entries) ≤ 4 * entry_width s.kind = few_bytes s.kind (length (take s.stand.count s.stand.entries)) e in
+    omega (arith, record_length s, n, f)
+
+-- of any kind
+record_most : (k : RecordKind) → most_site_record k ≤ 109
+record_most Tag52 = omega arith
+record_most Tag53 = omega arith
+record_most Tag54 = omega arith
+record_most Tag55 = omega arith
+
+pub record_short : (s : Site) → Sized s → length (encode s) ≤ 109
+record_short s z = omega (arith, record_few s z, record_most s.kind)
 
 pub fields_small : (s : Site) → Sized s → length (encode_fields (site_kind [] s.kind) (due s.kind) s) ≤ 255
-fields_small s z = omega (arith, encode_length (site_kind [] s.kind) s, record_few s z)
+fields_small s z = omega (arith, encode_length (site_kind [] s.kind) s, record_short s z)
 
 -- head and fields where there is room, by the length of the record
 pub record_put : {l b c : List ℕ} {at n q r : ℕ} (s : Site) → n ≡ length (encode s) → at + n ≤ length l

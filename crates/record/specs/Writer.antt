@@ -1,8 +1,9 @@
 -- The bytes of a site's record, and what a write of them can break.
-use Rattle.std.specs.Prelude.{ℕ, ◌≡◌, List, [], length, Ok}
+use Rattle.std.specs.Prelude.{ℕ, ◌+◌, ◌*◌, ◌≡◌, List, [], length, Ok}
 use Rattle.site.specs.declared.RecordKind.{RecordKind}
 use Rattle.site.specs.declared.RecordKind.TheVariants.{Tag52, Tag53, Tag54, Tag55}
 use Rattle.site.specs.declared.Site.{Site}
+use Rattle.site.specs.Kinds.{entry_width}
 use Rattle.site.specs.Refusal.{Checked}
 use Rattle.loads.specs.Check.{site_rule}
 use Rattle.output.specs.Output.{output_rule}
@@ -20,9 +21,9 @@ added_length Tag53 = 4
 added_length Tag54 = 4
 added_length Tag55 = 9
 
--- the greatest length of a record that is written: that of kind 55 with a name of 8 bytes and 4 entries
-abbrev pub most_site_record : ℕ
-most_site_record = 109
+-- the greatest length of a record of a kind, with a name of 8 bytes and 4 entries: 96 of kind 52, 100 of 53, 104 of 54 and 109 of 55
+abbrev pub most_site_record : RecordKind → ℕ
+most_site_record k = 80 + 4 * entry_width k + added_length k
 
 -- all that a write can break, 11 last
 abbrev pub write_rule : List ℕ → Site → ℕ → Checked

@@ -27,7 +27,7 @@ fn added_length(kind: RecordKind) -> usize
 // How many bytes the record of the site has, also of one that passes no check.
 pub fn record_len(site: Site) -> usize
     ensures answer { result ≡ length (encode site) }
-    ensures bounds { (72 ≤ result) × (result ≤ most_site_record) }
+    ensures bounds { (72 ≤ result) × (result ≤ most_site_record site.kind) }
 {
     // 15 heads, 24 bytes of values of one length, the name and the entries, then the fields after 0F
     let body = 15 * 3

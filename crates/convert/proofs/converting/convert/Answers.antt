@@ -1,6 +1,6 @@
 use Rattle.std.proofs.Common.{arith}
 use Rattle.std.proofs.lemmas.Result.{err_from_is_err_and}
-use Rattle.convert.proofs.ConvertLaws.{convert_fault, convert_inconvertible, convert_short, convert_done}
+use Rattle.convert.proofs.ConvertLaws.{old_sites, convert_fault, convert_inconvertible, convert_short, convert_done}
 use Rattle.convert.proofs.converting.convert.Goals as goal
 
 pub returns-in_err-sites : goal.returns-in_err-sites
@@ -27,3 +27,6 @@ returns c =
     let w = rw c.deref-2.ensures.0 at c.put_moved.ensures in
     let h = convert_done c.args.list.bytes.now c.args.file.now c.args.out.now c.args.target _ c.in_ok-sites.ensures.answer (λ i. omega (arith, c.type_inv.file i)) all (omega (arith, c.if-out-len.false)) w in
     record { answer = h.0.answer; buffer = h.0.buffer; numbers = h.0.numbers; enough = h.0.enough; same = h.1 }
+
+pub moved_len-requires-clause-older : goal.moved_len-requires-clause-older
+moved_len-requires-clause-older c = rw c.deref.ensures.0 (old_sites c.args.list.bytes.now c.args.file.now c.args.out.now c.args.target _ c.in_ok-sites.ensures.answer)

@@ -9,7 +9,7 @@ loop-site-init c = nothing _ 0
 
 pub loop-site-preserved : goal.loop-site-preserved
 loop-site-preserved c =
-    let k = c.args.kind in
+    let k = c.args.target in
     let ss = c.args.sites.now in
     let w = c.loop-site.invariant in
     let room = next_fits (moved_record k) ss c.loop-site.site-index _ c.loop-site-test.true w (omega arith) in

@@ -5,8 +5,8 @@ use Rattle.convert.proofs.moving.check_convertible.Goals as goal
 
 pub returns-in_err-map_err : goal.returns-in_err-map_err
 unfolding unless
-returns-in_err-map_err c = rw (convertible_by_field c.args.kind c.args.site c.args.at c.args.len c.requires.length) (search rules)
+returns-in_err-map_err c = rw (convertible_by_field c.args.target c.args.site c.requires.older c.args.at c.args.len c.requires.length) (search rules)
 
 pub returns : goal.returns
 unfolding unless
-returns c = rw (convertible_by_field c.args.kind c.args.site c.args.at c.args.len c.requires.length) (search rules)
+returns c = rw (convertible_by_field c.args.target c.args.site c.requires.older c.args.at c.args.len c.requires.length) (search rules)
