@@ -46,7 +46,9 @@ fn species_convertible(target: Target, site: Site) -> Result<(), Rule>
 fn temperature_convertible(target: Target, site: Site) -> Result<(), Rule>
     ensures { result ≡ temperature_convertible target site }
 {
-    convertible(target.kind().has_temperature() || site.counted_temperature() == REFERENCE_TEMPERATURE)
+    convertible(
+        target.kind().has_temperature() || site.counted_temperature() == REFERENCE_TEMPERATURE,
+    )
 }
 
 // Rule 17 at the record of a site that starts at `at` of the file and is `len` bytes long. Field 07 starts 28 bytes and the name behind the start, field 10 with

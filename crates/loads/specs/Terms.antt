@@ -13,7 +13,7 @@ pub record Terms : Type 0 where
   pub H : ℕ  -- hydrogen ceiling
   pub e : ℕ  -- 1000 − d, the part that is not denitrified
   pub L : ℕ  -- acceptable leaching
-  pub P : ℕ  -- soil carbon dioxide (document 02, E13), 0 where the kind of the record has none
+  pub P : ℕ  -- soil carbon dioxide, 0 where the kind of the record has none
 
 -- what the terms of a site that passes the check keep to
 pub record TermBounds (t : Terms) : Type 0 where

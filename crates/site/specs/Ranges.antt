@@ -82,7 +82,7 @@ deposition_range = record { least = 0; most = 65535 }
 abbrev pub temperature_range : Range
 temperature_range = record { least = 0; most = 25 }
 
--- 11 soil carbon dioxide P (document 02, E13), in units of 0.00001 atm
+-- 11 soil carbon dioxide P, in units of 0.00001 atm
 abbrev pub dioxide_range : Range
 dioxide_range = record { least = 0; most = 5000 }
 
