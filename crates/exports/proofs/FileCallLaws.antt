@@ -6,6 +6,7 @@ use native.Mathlib.Omega.{arith}
 use lib.ListN.{take}
 use Rattle.site.specs.SpeciesList.{list_rule, list_fault}
 use Rattle.site.specs.Ranges.{most_records}
+use Rattle.site.specs.declared.RecordKind.TheVariants.{Tag55}
 use Rattle.site.specs.declared.Site.{Site}
 use Rattle.std.specs.Prelude.{Ok, Err}
 use Rattle.site.specs.declared.Refusal.{Refusal}
@@ -22,23 +23,23 @@ use Rattle.listing.specs.Reports.{printed, report_of}
 use Rattle.listing.specs.PrintedDemand3.{WrittenSays, WrittenDemand3}
 use Rattle.listing.proofs.FileWrittenLaws.{file_count, answer_near}
 use Rattle.exports.specs.Codes.{code_base, written_code, Small}
-use Rattle.exports.specs.Lent.{lent_contents, lent_report, LentSays}
+use Rattle.exports.specs.Lent.{lent, lent_report, LentSays}
 use Rattle.exports.proofs.CodeLaws.{count_below}
 use Rattle.exports.proofs.LentLaws.{lent_good, lent_bad}
 
--- ---- a text of the sites of a file: the listing, the pages; and of what `step` makes of them, where it hands on a refusal: the converted file
+-- ---- a text of the sites that a file holds: the listing, the pages; and of what `step` makes of them, where it hands on a refusal: the converted file
 
-module _ (most : ℕ) (text : List Site → List ℕ) (step : Contents Site → Contents Site) (handed_on : (r : Refusal) → step (Err r) ≡ Err r) (list f d : List ℕ) where
+module _ (most : ℕ) (text : List Site → List ℕ) (step : Contents Site → Contents Site) (handed_on : (r : Refusal) → step (Err r) ≡ Err r) (list : List ℕ) (held : Contents Site) (d : List ℕ) where
   -- what the call does that takes the list's bytes
   pub record Filed (e : List ℕ) (l : Written) : Type 0 where
-    pub answer : l ≡ file_answer text (step (lent_contents list f)) d
-    pub buffer : e ≡ file_held text (step (lent_contents list f)) d
+    pub answer : l ≡ file_answer text (step (lent list held)) d
+    pub buffer : e ≡ file_held text (step (lent list held)) d
     pub small : Small l
 
   pub list_refused : {r : Refusal} → list_rule list ≡ Err r.rule → r.at ≡ list_fault list → Filed d (Err r)
   unfolding file_answer file_held
   list_refused {r} bad at =
-      let is : step (lent_contents list f) ≡ Err r = ap step (lent_bad list (contents list f) bad at) ∙ handed_on r in
+      let is : step (lent list held) ≡ Err r = ap step (lent_bad list held bad at) ∙ handed_on r in
       record {
         answer = rw is;
         buffer = rw is;
@@ -48,32 +49,32 @@ module _ (most : ℕ) (text : List Site → List ℕ) (step : Contents Site → 
       near : {j k : Refusal} → j.at ≡ list_fault list → ◌≡◌ {A = Written} (Err j) (Err k) → k.at < code_base
       near {j} {k} place q = let z : j ≡ k = cc in rw (← z) (omega (arith, place, fault_near list))
 
-  pub filed : {e : List ℕ} {l : Written} → list_rule list ≡ Ok tt → most < code_base → ((r : Refusal) → step (contents list f) ≡ Err r → r.at ≤ most_record * most_records)
-      → l ≡ file_answer text (step (contents list f)) d → e ≡ file_held text (step (contents list f)) d → FileRoom most text (step (contents list f)) d l → Filed e l
+  pub filed : {e : List ℕ} {l : Written} → list_rule list ≡ Ok tt → most < code_base → ((r : Refusal) → step held ≡ Err r → r.at ≤ most_record * most_records)
+      → l ≡ file_answer text (step held) d → e ≡ file_held text (step held) d → FileRoom most text (step held) d l → Filed e l
   filed good fits near answer buffer room =
-      let is = lent_good list (contents list f) good in
+      let is = lent_good list held good in
       record {
         answer = rw is answer;
         buffer = rw is buffer;
         small = record {
-          count = λ n q. omega (arith, file_count most text (step (contents list f)) d (sym answer ∙ q) (rw q at room));
-          offset = λ k q. omega (arith, answer_near most text (step (contents list f)) d (most_record * most_records) near (sym answer ∙ q));
+          count = λ n q. omega (arith, file_count most text (step held) d (sym answer ∙ q) (rw q at room));
+          offset = λ k q. omega (arith, answer_near most text (step held) d (most_record * most_records) near (sym answer ∙ q));
         };
       }
 
 -- the sites themselves: what is listed or put on pages
 module _ (most : ℕ) (text : List Site → List ℕ) (Say : List ℕ → List Site → List ℕ → Type 0) (list f d : List ℕ) where
   pub record Says (e : List ℕ) (l : Written) : Type 0 where
-    pub filed : Filed most text (λ c. c) (λ r. refl) list f d e l
+    pub filed : Filed most text (λ c. c) (λ r. refl) list (contents list f) d e l
     pub demand3 : list_rule list ≡ Ok tt → WrittenSays Say list f e l
 
   pub says_refused : {r : Refusal} → list_rule list ≡ Err r.rule → r.at ≡ list_fault list → Says d (Err r)
-  says_refused bad at = record { filed = list_refused most text (λ c. c) (λ r. refl) list f d bad at; demand3 = λ good n q. cc }
+  says_refused bad at = record { filed = list_refused most text (λ c. c) (λ r. refl) list (contents list f) d bad at; demand3 = λ good n q. cc }
 
   pub says_filed : {e : List ℕ} {l : Written} → list_rule list ≡ Ok tt → most < code_base
       → l ≡ file_answer text (contents list f) d → e ≡ file_held text (contents list f) d → WrittenSays Say list f e l → FileRoom most text (contents list f) d l → Says e l
   says_filed good fits answer buffer says room =
-      record { filed = filed most text (λ c. c) (λ r. refl) list f d good fits (λ r e. sites_fault_near list f e) answer buffer room; demand3 = λ g. says }
+      record { filed = filed most text (λ c. c) (λ r. refl) list (contents list f) d good fits (λ r e. sites_fault_near Tag55 list f e) answer buffer room; demand3 = λ g. says }
 
 -- ---- the report
 

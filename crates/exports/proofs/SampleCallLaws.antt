@@ -50,9 +50,9 @@ module _ (b list m : List ℕ) where
   unfolding months_length unless
   months_length_lem h n = rw (as_site list b h, ne_eqb (length m) 204 n)
 
-  pub site_length : (length b ≡ 50 → ⊥) → (length b ≡ 51 → ⊥) → (length b ≡ 55 → ⊥) → sample_listed ≡ Err (record { rule = BadLength; at = 0 })
+  pub site_length : (length b ≡ 50 → ⊥) → (length b ≡ 51 → ⊥) → (length b ≡ 55 → ⊥) → (length b ≡ 57 → ⊥) → sample_listed ≡ Err (record { rule = BadLength; at = 0 })
   unfolding unless
-  site_length h i j = rw (wrong_length list b h i j)
+  site_length h i j k = rw (wrong_length list b h i j k)
 
   pub both_whole : value_length b ≡ Ok tt → length m ≡ 204 → sample_listed ≡ sample_answer list (site_in b) (months_in m)
   unfolding months_length sample_answer unless

@@ -8,9 +8,10 @@ use borrow.Author.Tests.{ne_eqb}
 use Rattle.std.specs.Prelude.{Result, Ok, Err}
 use Rattle.site.specs.Refusal.{and_then, Checked, unless}
 use Rattle.loads.specs.Check.{site_rule}
+use Rattle.loads.proofs.CheckLaws.{passed_load}
 use Rattle.site.specs.declared.Refusal.{Refusal}
 use Rattle.site.specs.declared.Rule.TheVariants.{BadLength}
-use Rattle.site.specs.declared.RecordKind.TheVariants.{Tag52, Tag53, Tag54}
+use Rattle.site.specs.declared.RecordKind.TheVariants.{Tag52, Tag53, Tag54, Tag55}
 use Rattle.site.specs.declared.Site.{Site}
 use Rattle.site.proofs.Passing.{both_passed}
 use Rattle.loads.specs.SiteTerms.{terms_of}
@@ -35,15 +36,15 @@ use Rattle.exports.proofs.LentLaws.{lent_ok, lent_at}
 -- ---- the check of the bytes, by their length
 
 module _ (list b : List ℕ) where
-  pub wrong_length : (length b ≡ 50 → ⊥) → (length b ≡ 51 → ⊥) → (length b ≡ 55 → ⊥) → value_check list b ≡ Err BadLength
+  pub wrong_length : (length b ≡ 50 → ⊥) → (length b ≡ 51 → ⊥) → (length b ≡ 55 → ⊥) → (length b ≡ 57 → ⊥) → value_check list b ≡ Err BadLength
   unfolding value_check value_length and_then
-  wrong_length h i j = rw (ne_eqb (length b) 50 h, ne_eqb (length b) 51 i, ne_eqb (length b) 55 j)
+  wrong_length h i j k = rw (ne_eqb (length b) 50 h, ne_eqb (length b) 51 i, ne_eqb (length b) 55 j, ne_eqb (length b) 57 k)
 
   pub as_site : value_length b ≡ Ok tt → value_check list b ≡ site_rule list (site_in b)
   unfolding value_check and_then
   as_site h = rw h
 
-  -- 50 bytes are a value of kind 52, 51 of kind 53, 55 of kind 54
+  -- 50 bytes are a value of kind 52, 51 of kind 53, 55 of kind 54, 57 of kind 55
   pub as_52 : length b ≡ 50 → value_check list b ≡ site_rule list (site_as Tag52 b)
   unfolding value_check value_length kind_in and_then
   as_52 h = rw h
@@ -55,6 +56,10 @@ module _ (list b : List ℕ) where
   pub as_54 : length b ≡ 55 → value_check list b ≡ site_rule list (site_as Tag54 b)
   unfolding value_check value_length kind_in and_then
   as_54 h = rw h
+
+  pub as_55 : length b ≡ 57 → value_check list b ≡ site_rule list (site_as Tag55 b)
+  unfolding value_check value_length kind_in and_then
+  as_55 h = rw h
 
   pub value_passes : value_check list b ≡ Ok tt → site_rule list (site_in b) ≡ Ok tt
   unfolding value_check
@@ -162,7 +167,7 @@ length_judged list s = omega (arith, length_marked (verdict (terms_of list s) s.
 
 pub mark_tells : (list : List ℕ) (s : Site) → site_rule list s ≡ Ok tt → MarkSays list (mark_number (verdict (terms_of list s) s.sulphur s.nitrogen)) s
 unfolding mark_number
-mark_tells list s p = verdict_tells (terms_of list s) (site_bounds list s p) s.sulphur s.nitrogen mark_number refl (λ r a n. refl) (λ e. omega arith)
+mark_tells list s p = verdict_tells (terms_of list s) (site_bounds list s p) (passed_load list s p) s.sulphur s.nitrogen mark_number refl (λ r a n. refl) (λ e. omega arith)
 
 pub mark_at : (v : Verdict) (rest : List ℕ) → get_or (verdict_marked v ++ rest) 3 0 ≡ mark_number v
 unfolding verdict_marked verdict_numbers mark_number

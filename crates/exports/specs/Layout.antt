@@ -1,6 +1,6 @@
 -- The calls on a site value and a list: its bytes, in the order of the site's values, numbers of two bytes with the high byte first; its check; and the numbers
 -- of its loads and of its judgement. The number of the bytes says the kind: 50 are a value of kind 52; 51 one of kind 53, whose last byte is the temperature;
--- 55 one of kind 54, which has the high bytes of the four species numbers behind it.
+-- 55 one of kind 54, which has the high bytes of the four species numbers behind it; 57 one of kind 55, which has the soil carbon dioxide behind these.
 use Rattle.std.specs.Prelude.{ℕ, ◌+◌, ◌*◌, ◌||◌, List, [], ◌∷◌, ◌++◌, eqb, get_or, length, Result, Ok, Err}
 use Rattle.site.specs.Choice.{pick}
 use Rattle.site.specs.Refusal.{and_then, Checked, unless}
@@ -8,7 +8,7 @@ use Rattle.loads.specs.Check.{site_rule}
 use Rattle.numbers.specs.TwoBytes.{word_of, word_at}
 use Rattle.site.specs.Bytes.{tabulate, name_in, narrow_entry}
 use Rattle.site.specs.declared.RecordKind.{RecordKind}
-use Rattle.site.specs.declared.RecordKind.TheVariants.{Tag52, Tag53, Tag54}
+use Rattle.site.specs.declared.RecordKind.TheVariants.{Tag52, Tag53, Tag54, Tag55}
 use Rattle.site.specs.Kinds.{reference_temperature}
 use Rattle.site.specs.declared.Site.{Site}
 use Rattle.site.specs.declared.Entry.{Entry}
@@ -30,7 +30,7 @@ entry_in b i = record (narrow_entry b (16 + 4 * i)) { species = word_of (get_or 
 abbrev pub stand_in : List ℕ → Stand
 stand_in b = record { entries = tabulate 4 (λ i. entry_in b i); count = get_or b 32 0 }
 
--- the bytes as a value of kind k; where there is no temperature, that of 8 °C
+-- the bytes as a value of kind k; where there is no temperature, that of 8 °C, and where there is no carbon dioxide, none
 unfoldable pub site_as : RecordKind → List ℕ → Site
 site_as k b = record {
   kind = k;
@@ -52,18 +52,19 @@ site_as k b = record {
   sulphur = word_at b 46;
   nitrogen = word_at b 48;
   temperature = get_or b 50 reference_temperature;
+  dioxide = word_at b 55;
 }
 
 -- the length says the kind
 unfoldable pub kind_in : List ℕ → RecordKind
-kind_in b = pick (eqb (length b) 55) Tag54 (pick (eqb (length b) 51) Tag53 Tag52)
+kind_in b = pick (eqb (length b) 57) Tag55 (pick (eqb (length b) 55) Tag54 (pick (eqb (length b) 51) Tag53 Tag52))
 
 abbrev pub site_in : List ℕ → Site
 site_in b = site_as (kind_in b) b
 
 -- rule 7 for the length of the bytes
 unfoldable pub value_length : List ℕ → Checked
-value_length b = pick (eqb (length b) 50 || eqb (length b) 51 || eqb (length b) 55) (Ok tt) (Err BadLength)
+value_length b = pick (eqb (length b) 50 || eqb (length b) 51 || eqb (length b) 55 || eqb (length b) 57) (Ok tt) (Err BadLength)
 
 -- then the rules of the site
 unfoldable pub value_check : (list b : List ℕ) → Checked

@@ -6,8 +6,8 @@ ghost use Rattle.exports.specs.Codes.{code_base, written_code, Decodes, Small};
 ghost use Rattle.exports.specs.Target.{converted_to, MovedTo};
 
 use crate::codes::written_code;
-use convert::convert;
-use site::{RecordKind, Refusal, SpeciesList};
+use convert::{Target, convert};
+use site::{Refusal, SpeciesList};
 
 fn convert_lent(file: &[u8], list: &[u8], target: u8, out: &mut [u8]) -> Result<usize, Refusal>
     ensures answer { result ≡ file_answer file_of (converted_to target list.now file.now) out.old }
@@ -15,7 +15,7 @@ fn convert_lent(file: &[u8], list: &[u8], target: u8, out: &mut [u8]) -> Result<
     ensures small { Small result }
     ensures same { IfOk result (λ n. MovedTo target list.now file.now (take n out.new)) }
 {
-    let target = RecordKind::try_from(target)?;
+    let target = Target::try_from(target)?;
     let list = SpeciesList::checked(list)?;
     convert(file, list, target, out)
 }

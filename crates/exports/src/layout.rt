@@ -57,5 +57,6 @@ pub fn site_as(kind: RecordKind, b: &[u8]) -> Site
         sulphur: word_at(b, 46),
         nitrogen: word_at(b, 48),
         temperature: b.get(50).copied().unwrap_or(REFERENCE_TEMPERATURE),
+        dioxide: word_at(b, 55),
     }
 }

@@ -13,8 +13,8 @@ use crate::layout::site_as;
 use crate::putting::put_numbers;
 use judgement::{Judged, Verdict, judge};
 use level::level_at;
-use loads::critical_loads;
-use site::{RecordKind, Refusal, Rule, Site, SpeciesList, check_site};
+use loads::{check_site, critical_loads};
+use site::{RecordKind, Refusal, Rule, Site, SpeciesList};
 
 // The site in the bytes of a site value, whose number says its kind.
 #[tactic(auto, unfolding(site::specs::Refusal::and_then, crate::specs::Layout::value_length, crate::specs::Layout::kind_in))]
@@ -25,6 +25,7 @@ pub fn site_value(bytes: &[u8]) -> Result<Site, Rule>
         50 => RecordKind::Tag52,
         51 => RecordKind::Tag53,
         55 => RecordKind::Tag54,
+        57 => RecordKind::Tag55,
         _ => return Err(Rule::BadLength),
     };
     Ok(site_as(kind, bytes))
