@@ -72,8 +72,8 @@ fn print_line(rt: &impl Print, line: &[u8], list: &mut ArrayVec<u8, 2048>) -> io
 
 // What stands in the input past the room is left out.
 fn main(rt: HostRuntime) -> io::Result<()> {
-    let mut text = ArrayVec::<u8, 65536>::new();
-    io::copy(&mut rt.stdin().take(65536), &mut text)?;
+    let mut text = ArrayVec::<u8, 131072>::new();
+    io::copy(&mut rt.stdin().take(131072), &mut text)?;
     let mut list = ArrayVec::new();
     for line in text.split(|b| *b == b'\n') {
         print_line(&rt, line, &mut list)?;

@@ -1,6 +1,6 @@
 // What is printed for the bytes of a vector, by its letter.
 use arrayvec::ArrayVec;
-use convert::convert;
+use convert::{Target, convert};
 use judgement::Verdict;
 use level::level_at;
 use listing::report;
@@ -10,7 +10,7 @@ use pages::list_pages;
 use readings::months_in;
 use record::{read_record, write_record};
 use sampler::{Sampled, judge_months};
-use site::{RecordKind, Refusal, SpeciesList};
+use site::{Refusal, SpeciesList};
 use std::io::{self, Write};
 
 // What ends a vector: a call's refusal, or a write that failed.
@@ -96,7 +96,7 @@ pub fn print_converted(rt: &impl Print, bytes: &[u8], list: &[u8]) -> Result<(),
     let [target, file @ ..] = bytes else {
         return Ok(());
     };
-    let target = RecordKind::try_from(*target).map_err(Refusal::from)?;
+    let target = Target::try_from(*target).map_err(Refusal::from)?;
     let mut out = [0u8; 2048];
     let n = convert(file, SpeciesList::checked(list)?, target, &mut out)?;
     Ok(print_hexadecimal(rt, &out[..n.min(out.len())])?)
