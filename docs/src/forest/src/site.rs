@@ -40,7 +40,7 @@ impl Kind {
 
     /// Whether a species has two bytes.
     #[inline(always)]
-    pub(crate) fn has_wide_species(self) -> bool {
+    pub fn has_wide_species(self) -> bool {
         matches!(self, Kind::Tag54 | Kind::Tag55)
     }
 
