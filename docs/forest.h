@@ -40,11 +40,11 @@
  * with their codes, units and ranges.
  *
  * Field 11 is the carbon dioxide P of the soil in units of 0.00001 atm, two bytes, 0 to 5000; a site of another kind has P 0. At
- * a hydrogen level of h tenths of meq per cubic metre, h being 1 or more, bicarbonate leaches: percolation * P / (50 * h), up. The
- * net leaching, hydrogen and aluminium less bicarbonate, counts at the greatest allowed h, and may be below 0. Where so much is
- * lost that CLmaxS would be below 0, no pair S, N closes the acid balance, and the site is refused by 21: by every call that takes
- * a file, a record or a site value, but for forest_convert, which takes no kind 55. A CLmaxS of 0 is accepted. With P 0 a site of
- * kind 55 has the loads and the mark of the same site in kind 54.
+ * a hydrogen level of h tenths of meq per cubic metre, h being 1 or more, bicarbonate leaches: percolation * P / (50 * h), up.
+ * The net leaching, hydrogen and aluminium less bicarbonate, counts at the greatest allowed h, and may be below 0. Where so much
+ * is lost that CLmaxS would be below 0, no pair S, N closes the acid balance, and the site is refused by 21: by every call that
+ * takes a file, a record or a site value, but for forest_convert, which takes no kind 55. A CLmaxS of 0 is accepted. With P 0 a
+ * site of kind 55 has the loads and the mark of the same site in kind 54.
  *
  * A stand has at most four entries; more, or a part of an entry, are refused by 7. The stand of a reserve, a site without
  * harvest, has none: in every kind its field 07 is the three bytes 07 00 00 (hexadecimal), and the count of its site value is
