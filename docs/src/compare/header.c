@@ -634,6 +634,11 @@ static void near_neutral_value_calls(void) {
     value[55] = 5000 >> 8, value[56] = 5000 & 0xFF;
     expect_judged("P 5000", value, SITE_55, most, searched);
     expect_judged("the first 55 bytes", value, SITE_54, plain, searched);
+    /* At 20 degrees W is 211, A 430, h 895, M 179 + 430 less 20,000 / 895 up, and v 29,500. */
+    static const uint64_t warm[10] = {500, 700, 916, 205, 1222, 249, 2, 31, 451, 1}, warm_searched[2] = {895, 11};
+    value[50] = 25;
+    expect_judged("P 5000 at 20", value, SITE_55, warm, warm_searched);
+    value[50] = 13;
     expect_value_refused("a site of 56 bytes", value, SITE_55 - 1, 7);
     expect_value_refused("a site of 58 bytes", value, SITE_55 + 1, 7);
     value[CEILING - 1] = 0, value[CEILING] = 50;
