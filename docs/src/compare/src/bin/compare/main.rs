@@ -57,7 +57,7 @@ fn main() -> ExitCode {
     let mut random = Random::new(options.seed);
     let mut comparison = Comparison::new(&mut random);
 
-    let (sites, records, files) = (scaled(1_800_000.0), scaled(700_000.0), scaled(150_000.0));
+    let (sites, records, files) = (scaled(1_600_000.0), scaled(650_000.0), scaled(140_000.0));
     let years = scaled(600_000.0);
     for _ in 0..sites {
         let (value, list) = lists::with(&mut random, sites::value);
