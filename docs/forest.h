@@ -9,7 +9,7 @@
  *   Refusal                                                                            Offset
  *    1  no bytes                                                                       0
  *    2  outer field cut: under 3 bytes, or length above 255 or beyond the end          the outer field
- *    3  outer tag other than 52, 53 and 54 (hexadecimal)                               the outer field; 0 for a target
+ *    3  outer tag other than 52, 53, 54 and 55 (hexadecimal); in a conversion 55 too   the outer field; 0 for a target
  *    4  bytes after the 500th record, or after a single one                            the first byte left over
  *    5  inner field cut: under 3 bytes, or length beyond its record                    the field
  *    6  another tag than the next due, none left, or bytes after the last field due    the byte, or the record's end
@@ -24,24 +24,34 @@
  *   15  entry of the species list broken, not rising, or of a number not 256 to 1023   the entry, in the list
  *   16  species that the species list lacks                                            the stand's field
  *   17  species, or temperature, that the target's kind cannot hold                    the first such field
+ *   21  bicarbonate takes so much that CLmaxS would be below 0                         field 11, the last of its record
  *
  * Offsets count bytes from the start of the file or record; of a site value each is 0; 8 for a month's rain is at the month,
  * and 15 is counted from the start of the list. 15 comes ahead of all others but 3 for a target. Then the first fault from
- * the left is given, 16 after 10 of the same stand, 14 after all months, 17 after all faults of the file, and 11 only where
+ * the left is given, 16 after 10 of the same stand, 21 after all other faults of its record or site value, bytes left over (6)
+ * included, and ahead of whatever follows the record, 14 after all months, 17 after all faults of the file, and 11 only where
  * there is no other.
  *
  * A field is a tag of one byte, a length of two bytes, high byte first, and a value. A record is an outer field whose value
  * is the fields of its kind, each once, rising. The kind is the outer tag: 52 has the fields 01 to 0F, 53 those and field 10,
  * 54 those of 53 with stand entries of five bytes, the species number in two: species (2), share, yield (2); in 52 and 53 it
- * is one byte (tags hexadecimal). A record of kind 52 has at most 96 bytes, of 53 100, of 54 104. A file is 1 to 500 records,
- * which may be of several kinds. README.md, "A file of records", has the values with their codes, units and ranges.
+ * is one byte. 55 has the fields of 54 and field 11 (tags hexadecimal). A record of kind 52 has at most 96 bytes, of 53 100, of
+ * 54 104, of 55 109. A file is 1 to 500 records, which may be of several kinds. README.md, "A file of records", has the values
+ * with their codes, units and ranges.
+ *
+ * Field 11 is the carbon dioxide P of the soil in units of 0.00001 atm, two bytes, 0 to 5000; a site of another kind has P 0. At
+ * a hydrogen level of h tenths of meq per cubic metre, h being 1 or more, bicarbonate leaches: percolation * P / (50 * h), up.
+ * The net leaching, hydrogen and aluminium less bicarbonate, counts at the greatest allowed h, and may be below 0. Where so much
+ * is lost that CLmaxS would be below 0, no pair S, N closes the acid balance, and the site is refused by 21: by every call that
+ * takes a file, a record or a site value, but for forest_convert, which takes no kind 55. A CLmaxS of 0 is accepted. With P 0 a
+ * site of kind 55 has the loads and the mark of the same site in kind 54.
  *
  * A stand has at most four entries; more, or a part of an entry, are refused by 7. The stand of a reserve, a site without
  * harvest, has none: in every kind its field 07 is the three bytes 07 00 00 (hexadecimal), and the count of its site value is
  * 0. A reserve takes up no nitrogen and no base cations, so its CLminN is the immobilisation. Rules 8 and 16 find no entry in
  * its stand, 9 and 10 don't apply. Every call takes reserves, and a file may hold them among other records.
  *
- * Species 0 to 8 are the unit's own in every kind; above 8 kinds 52 and 53 have none. In kind 54 the species 256 to 1023
+ * Species 0 to 8 are the unit's own in every kind; above 8 kinds 52 and 53 have none. In kinds 54 and 55 the species 256 to 1023
  * stand in a species list, which is lent with every file, record and site value, right after it; other numbers are refused
  * by 8. A list is entries of ten bytes, their numbers strictly rising, each number of two bytes high byte first:
  *
@@ -50,8 +60,8 @@
  * Ca, Mg, K and N are contents in hundredths of eq per tonne of dry matter, 0 to 65535. A list has at most 768 entries, 7680
  * bytes; a list of no bytes is good, and has no species.
  *
- * A site value is the same values in 50 bytes for kind 52, 51 for kind 53 and 55 for kind 54, numbers of two bytes high byte
- * first:
+ * A site value is the same values in 50 bytes for kind 52, 51 for kind 53, 55 for kind 54 and 57 for kind 55, numbers of two
+ * bytes high byte first:
  *
  *    0  name, 8 bytes            8  length of the name       9  parent material
  *   10  clay                    11  sand                    12  root depth
@@ -60,14 +70,15 @@
  *   35  available share of weathering
  *   36  base cation deposition, 2                           38  critical Bc/Al ratio, 2
  *   40  gibbsite constant, 2    42  hydrogen ceiling, 2     44  acceptable nitrogen in leachate, 2
- *   46  deposition S, 2         48  deposition N, 2         50  temperature, of kinds 53 and 54
- *   51  high bytes of the four species, of kind 54 alone; the low bytes stand at 16, 20, 24 and 28
+ *   46  deposition S, 2         48  deposition N, 2         50  temperature, of kinds 53, 54 and 55
+ *   51  high bytes of the four species, of kinds 54 and 55; the low bytes stand at 16, 20, 24 and 28
+ *   55  carbon dioxide, 2, of kind 55 alone
  *
  * Bytes of the name past its length are not looked at, nor are entries past their count: of a reserve all four, whatever they
  * hold. A count above 4 is refused by 7, as is a length of the name other than 1 to 8.
  *
  * The temperature is the mean in degrees Celsius plus 5, 0 to 25 for -5 to 20 degrees; a site of kind 52 weathers as at 8
- * degrees. Any 50, 51 or 55 bytes are a site value; a bad one is refused by rules 7 to 10 and 16, another length by 7.
+ * degrees. Any 50, 51, 55 or 57 bytes are a site value; a bad one is refused by rules 7 to 10, 16 and 21, another length by 7.
  *
  * The rain sampler's months are 204 bytes, 17 for each of twelve months, numbers with the high byte first:
  *
@@ -123,10 +134,10 @@ uint64_t forest_rewrite(const uint8_t *record, size_t record_len, const uint8_t 
  * down to 52 only at 8 degrees, and out of 54 only where all its species are below 256; a reserve has none, so that only its
  * temperature can keep it back. One of the target's kind stays as it is. A record keeps its loads and its mark, and a file of
  * one kind, moved and then moved back, its bytes.
- * Refused are, in this order: a target other than the three (3, at 0); the list (15); the file, as by forest_list (1 to 10
- * and 16); the first field from the left that cannot go down, 07 ahead of 10 in a record (17); a buffer shorter than the
- * moved file (11). A moved record has at most 104 bytes: a buffer of FOREST_MOST_CONVERTED bytes is always long enough.
- * Stack: 64 KiB. */
+ * Kind 55 is neither moved nor a target. Refused are, in this order: a target other than the three (3, at 0); the list (15);
+ * the file, as by forest_list (1 to 10 and 16), but that an outer tag of 55 is refused by 3 at its field, whatever follows; the
+ * first field from the left that cannot go down, 07 ahead of 10 in a record (17); a buffer shorter than the moved file (11). A
+ * moved record has at most 104 bytes: a buffer of FOREST_MOST_CONVERTED bytes is always long enough. Stack: 64 KiB. */
 uint64_t forest_convert(const uint8_t *file, size_t file_len, const uint8_t *list, size_t list_len, uint8_t target,
                         uint8_t *out, size_t out_len);
 

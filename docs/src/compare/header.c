@@ -1,5 +1,5 @@
 /*
- * The calls of forest.h as C sees them, on the record A1 of document 01, on this record in kinds 53 and 54, and on A1 as a
+ * The calls of forest.h as C sees them, on the record A1 of document 01, on this record in kinds 53, 54 and 55, and on A1 as a
  * reserve: every answer, every element of the lent buffer, and nothing, by null pointers. The last line is how many passed and
  * failed.
  */
@@ -40,11 +40,18 @@ static const uint8_t as_54[166] = {
     0x54, 0, 80, 1, 0, 2, 'B', '2', FIELDS_02_TO_06, 7, 0, 5, 0, 0, 100, 0x07, 0xD0, FIELDS_08_TO_0E,
     15, 0, 4, 0x00, 0xC8, 0x00, 0xF0, 16, 0, 1, 13,
 };
+/* A1 in kind 55, at 8 degrees with P 5000, before B2 in kind 52. */
+static const uint8_t near_neutral[166] = {
+    0x55, 0, 85, 1, 0, 2, 'A', '1', FIELDS_02_TO_06, 7, 0, 5, 0, 0, 100, 0x07, 0xD0, FIELDS_08_TO_0E,
+    15, 0, 4, 0x01, 0xF4, 0x02, 0xBC, 16, 0, 1, 13, 17, 0, 2, 0x13, 0x88,
+    0x52, 0, 75, 1, 0, 2, 'B', '2', FIELDS_02_TO_06, FIELDS_07_TO_0E, 15, 0, 4, 0x00, 0xC8, 0x00, 0xF0,
+};
 /* A1 as a reserve in each kind, at 8 degrees: field 07 has no value. */
 #define RESERVE_TO_0F 1, 0, 2, 'A', '1', FIELDS_02_TO_06, 7, 0, 0, FIELDS_08_TO_0E, 15, 0, 4, 0x01, 0xF4, 0x02, 0xBC
 static const uint8_t reserve_52[74] = {0x52, 0, 71, RESERVE_TO_0F};
 static const uint8_t reserve_53[78] = {0x53, 0, 75, RESERVE_TO_0F, 16, 0, 1, 13};
 static const uint8_t reserve_54[78] = {0x54, 0, 75, RESERVE_TO_0F, 16, 0, 1, 13};
+static const uint8_t reserve_55[83] = {0x55, 0, 80, RESERVE_TO_0F, 16, 0, 1, 13, 17, 0, 2, 0x13, 0x88};
 /* Species 256, 513 and 1023 with their Ca, Mg, K and N: 5389 1980 1660 7782 as pine; 10000 2000 3000 12000; 65535 each. */
 static const uint8_t list[30] = {
     1, 0, 0x15, 0x0D, 0x07, 0xBC, 0x06, 0x7C, 0x1E, 0x66,
@@ -53,14 +60,17 @@ static const uint8_t list[30] = {
 };
 #define LENT list, sizeof list
 #define NONE NULL, 0
-enum { RECORD = 78, RECORD_53 = 82, RECORD_54 = 83, SITE = 50, SITE_53 = 51, SITE_54 = 55, STAND = 30, ENTRY = 10 };
+enum { RECORD = 78, RECORD_53 = 82, RECORD_54 = 83, RECORD_55 = 88, STAND = 30, ENTRY = 10 };
+enum { SITE = 50, SITE_53 = 51, SITE_54 = 55, SITE_55 = 57 };
 enum { MONTH = 17, MONTHS = 204, ROOM = 300, SPARE = 0xA5 };
 /* In A1: the species of kind 54, and field 10. In a reserve: field 08, and field 10. In a site value: the count of entries. */
 enum { SPECIES_54 = STAND + 3, TEMPERATURE_53 = RECORD_53 - 4, TEMPERATURE_54 = RECORD_54 - 4 };
 enum { AFTER_STAND = STAND + 3, TEMPERATURE_OF_RESERVE = sizeof reserve_52, COUNT = 32 };
+/* In A1 of kind 55: field 11, and the low byte of the ceiling of field 0D. In a site value: that byte. */
+enum { GAS = RECORD_55 - 5, CEILING_55 = 66, CEILING_OF_RESERVE = 61, CEILING = 43 };
 
 /* The longest listing and record that documents 01 and 02 let be are within what the header gives; 500 sites are on 9 pages. */
-_Static_assert(FOREST_MOST_TEXT >= 51 + 500 * (8 + 7 * 8 + 7 + 1) && FOREST_MOST_RECORD >= 104, "forest.h: too short");
+_Static_assert(FOREST_MOST_TEXT >= 51 + 500 * (8 + 7 * 8 + 7 + 1) && FOREST_MOST_RECORD >= 109, "forest.h: too short");
 _Static_assert(FOREST_MOST_PAGES == (9 + 500) * (64 + 1), "forest.h: all pages");
 _Static_assert(FOREST_MOST_CONVERTED == 500 * 104, "forest.h: a full file of the longest records");
 
@@ -100,6 +110,15 @@ static const char overseas_listing[] = "id maxS minN maxN nutN region acidEx nut
 static const char overseas_page[] = "id          maxS    minN    maxN    nutNre acidEx  nutExverdict \n"
                                     "A1           401     290     735     334 2    492    366   over \n"
                                     "B2           735     205    1021     249 0      0      0 within \n";
+
+/* At h 818 200 * 5000 / (50 * 818) up is 25, so that M is 491 - 25, and v 235,500. */
+static const char near_neutral_listing[] = "id maxS minN maxN nutN region acidEx nutEx verdict\n"
+                                           "A1 710 205 993 249 2 248 451 over\n"
+                                           "B2 735 205 1021 249 0 0 0 within\n";
+
+static const char near_neutral_page[] = "id          maxS    minN    maxN    nutNre acidEx  nutExverdict \n"
+                                        "A1           710     205     993     249 2    248    451   over \n"
+                                        "B2           735     205    1021     249 0      0      0 within \n";
 
 /* The reserve between A1 and B2. W is 125, w 100, Nu and Bu 0, A 1500 * 400 / 1000, which al(1000) is too, M 200 + 600, L 40;
  * 1,225,000 / 900 is 1361.1, and 40,000 / 900 is 44.4. 500,000 + 900 * 650 is below 1,225,000, and 700 - 94 is 606. */
@@ -465,6 +484,189 @@ static void reserve_value_calls(void) {
     }
 }
 
+/* Enters a ceiling of 50 tenths, and P, in A1 of kind 55. */
+static void enter_gas(uint8_t *record, unsigned gas) {
+    record[CEILING_55 - 1] = 0, record[CEILING_55] = 50;
+    record[GAS + 3] = gas >> 8, record[GAS + 4] = gas & 0xFF;
+}
+
+/* A refusal of a file by each call that lists it, with room and without; `line` is what is reported. */
+static void expect_refused(const char *what, const uint8_t *from, size_t length, uint64_t rule, uint64_t offset,
+                           const char *line) {
+    expect_text(what, forest_list(from, length, LENT, text, ROOM), refusal(rule, offset), "", 0);
+    expect_text(what, forest_list(from, length, LENT, NULL, 0), refusal(rule, offset), "", 0);
+    expect_text(what, forest_pages(from, length, LENT, text, ROOM), refusal(rule, offset), "", 0);
+    expect_text(what, forest_pages(from, length, LENT, NULL, 0), refusal(rule, offset), "", 0);
+    expect_text(what, forest_report(from, length, LENT, text, strlen(line)), strlen(line), line, strlen(line));
+    expect_text(what, forest_report(from, length, LENT, text, strlen(line) - 1), refusal(11, 0), "", 0);
+}
+
+/* The same of a file whose first record is at fault, which is refused as a single record too. */
+static void expect_record_refused(const char *what, const uint8_t *from, size_t length, uint64_t rule, uint64_t offset,
+                                  const char *line) {
+    expect_refused(what, from, length, rule, offset, line);
+    expect_text(what, forest_rewrite(from, length, LENT, text, ROOM), refusal(rule, offset), "", 0);
+    expect_text(what, forest_rewrite(from, length, LENT, NULL, 0), refusal(rule, offset), "", 0);
+}
+
+/* Kind 55 in files and as records, and the refusal 21. */
+static void near_neutral_file_calls(void) {
+    const size_t length = sizeof near_neutral_listing - 1, page_length = sizeof near_neutral_page - 1;
+    expect_text("kind 55", forest_list(near_neutral, sizeof near_neutral, LENT, text, length), length, near_neutral_listing,
+                length);
+    expect_text("kind 55 does not fit", forest_list(near_neutral, sizeof near_neutral, LENT, text, length - 1), refusal(11, 0),
+                "", 0);
+    expect_text("kind 55 reported", forest_report(near_neutral, sizeof near_neutral, NONE, text, ROOM), length,
+                near_neutral_listing, length);
+    expect_text("a page with kind 55", forest_pages(near_neutral, sizeof near_neutral, LENT, text, page_length), page_length,
+                near_neutral_page, page_length);
+    expect_text("kind 55 again", forest_rewrite(near_neutral, RECORD_55, LENT, text, RECORD_55), RECORD_55, near_neutral,
+                RECORD_55);
+    expect_text("kind 55 in 87 bytes", forest_rewrite(near_neutral, RECORD_55, LENT, text, RECORD_55 - 1), refusal(11, 0), "",
+                0);
+    expect_text("a record after kind 55", forest_rewrite(near_neutral, sizeof near_neutral, LENT, text, ROOM),
+                refusal(4, RECORD_55), "", 0);
+
+    /* At the ceiling of 50 hydrogen is 10 and al 0; 4 * P / 50 is 254 by 3175, and more by 3176: CLmaxS is 244 + 10 - 254. */
+    static const char none_left[] = "id maxS minN maxN nutN region acidEx nutEx verdict\nA1 0 205 205 249 1 995 451 over\n";
+    const size_t none_length = sizeof none_left - 1;
+    uint8_t bad[sizeof near_neutral + 1];
+    memcpy(bad, near_neutral, sizeof near_neutral);
+    enter_gas(bad, 3175);
+    expect_text("a load of 0", forest_list(bad, RECORD_55, LENT, text, ROOM), none_length, none_left, none_length);
+    expect_text("a load of 0 again", forest_rewrite(bad, RECORD_55, LENT, text, ROOM), RECORD_55, bad, RECORD_55);
+    enter_gas(bad, 3176);
+    expect_record_refused("21", bad, RECORD_55, 21, GAS, "refused 21 at 83\n");
+    expect_record_refused("21 ahead of a record", bad, sizeof near_neutral, 21, GAS, "refused 21 at 83\n");
+    expect_record_refused("21 ahead of a byte", bad, RECORD_55 + 1, 21, GAS, "refused 21 at 83\n");
+    enter_gas(bad, 5000);
+    bad[RECORD_55] = 0x56;
+    expect_record_refused("21 ahead of 3", bad, sizeof near_neutral, 21, GAS, "refused 21 at 83\n");
+    expect_text("15 ahead of 21", forest_list(bad, RECORD_55, list, sizeof list - 1, text, ROOM), refusal(15, 2 * ENTRY), "", 0);
+
+    /* After all checks of its record: P above 5000, bytes left over, the record cut. */
+    enter_gas(bad, 5001);
+    expect_record_refused("8 of field 11", bad, RECORD_55, 8, GAS, "refused 8 at 83\n");
+    enter_gas(bad, 5000);
+    bad[2]++;
+    expect_record_refused("6 ahead of 21", bad, RECORD_55 + 1, 6, RECORD_55, "refused 6 at 88\n");
+    expect_record_refused("2 ahead of 21", bad, RECORD_55, 2, 0, "refused 2 at 0\n");
+    bad[2] = GAS - 3;
+    expect_record_refused("no field 11", bad, GAS, 6, GAS, "refused 6 at 83\n");
+    bad[0] = 0x54, bad[2] = RECORD_55 - 3;
+    expect_record_refused("field 11 in kind 54", bad, RECORD_55, 6, GAS, "refused 6 at 83\n");
+
+    /* As the second record. */
+    uint8_t second[RECORD + RECORD_55];
+    memcpy(second, file, RECORD);
+    memcpy(second + RECORD, near_neutral, RECORD_55);
+    enter_gas(second + RECORD, 3176);
+    expect_refused("21 of the second", second, sizeof second, 21, RECORD + GAS, "refused 21 at 161\n");
+    second[STAND - 1] = 0, second[STAND - 2] = 0;
+    expect_refused("21 after the first", second, sizeof second, 8, STAND - 5, "refused 8 at 25\n");
+
+    /* A reserve loses as much and has more: 425 + 10 - 400. At the ceiling of 45 it is 425 + 9 - 445. */
+    static const char little_left[] = "id maxS minN maxN nutN region acidEx nutEx verdict\nA1 35 50 88 94 1 1112 606 over\n";
+    const size_t little_length = sizeof little_left - 1;
+    uint8_t reserve[sizeof reserve_55];
+    memcpy(reserve, reserve_55, sizeof reserve);
+    reserve[CEILING_OF_RESERVE - 1] = 0, reserve[CEILING_OF_RESERVE] = 50;
+    expect_text("a reserve of kind 55", forest_list(reserve, sizeof reserve, LENT, text, ROOM), little_length, little_left,
+                little_length);
+    expect_text("a reserve of kind 55 again", forest_rewrite(reserve, sizeof reserve, LENT, text, ROOM), sizeof reserve, reserve,
+                sizeof reserve);
+    reserve[CEILING_OF_RESERVE] = 45;
+    expect_record_refused("21 at a reserve", reserve, sizeof reserve, 21, sizeof reserve - 5, "refused 21 at 78\n");
+
+    /* No conversion takes kind 55, whatever is in it, nor gives it. */
+    static const uint8_t targets[3] = {0x52, 0x53, 0x54};
+    enter_gas(second + RECORD, 3176);
+    memcpy(second, file, RECORD);
+    for (size_t i = 0; i < 3; i++) {
+        expect_stuck("kind 55 moved", near_neutral, sizeof near_neutral, targets[i], 3, 0);
+        expect_stuck("kind 55 moved, 21", second + RECORD, RECORD_55, targets[i], 3, 0);
+        expect_stuck("kind 55 moved, 2", near_neutral, RECORD_55 - 1, targets[i], 3, 0);
+        expect_stuck("2 bytes moved", near_neutral, 2, targets[i], 2, 0);
+        expect_stuck("a later record of kind 55", second, sizeof second, targets[i], 3, RECORD);
+        expect_text("15 ahead of kind 55", forest_convert(near_neutral, sizeof near_neutral, list, sizeof list - 1, targets[i],
+                                                          text, ROOM), refusal(15, 2 * ENTRY), "", 0);
+    }
+    expect_stuck("kind 55 to 55", near_neutral, sizeof near_neutral, 0x55, 3, 0);
+    expect_stuck("a later record to 55", second, sizeof second, 0x55, 3, 0);
+    expect_text("15 to 55", forest_convert(near_neutral, sizeof near_neutral, list, sizeof list - 1, 0x55, text, ROOM),
+                refusal(3, 0), "", 0);
+}
+
+/* A refusal of a site value by each call, with room and without; of a year too, whose months are not looked at. */
+static void expect_value_refused(const char *what, const uint8_t *value, size_t length, uint64_t rule) {
+    expect(what, forest_check(value, length, LENT) == refusal(rule, 0));
+    expect_numbers(what, forest_loads(value, length, LENT, numbers, 4), refusal(rule, 0), numbers, 0);
+    expect_numbers(what, forest_loads(value, length, LENT, NULL, 0), refusal(rule, 0), numbers, 0);
+    expect_numbers(what, forest_level(value, length, LENT, numbers, 2), refusal(rule, 0), numbers, 0);
+    expect_numbers(what, forest_level(value, length, LENT, NULL, 0), refusal(rule, 0), numbers, 0);
+    expect_numbers(what, forest_judge(value, length, LENT, numbers, 8), refusal(rule, 0), numbers, 0);
+    expect_numbers(what, forest_judge(value, length, LENT, NULL, 0), refusal(rule, 0), numbers, 0);
+    expect_numbers(what, forest_sample(value, length, LENT, months, MONTHS, numbers, 10), refusal(rule, 0), numbers, 0);
+    expect_numbers(what, forest_sample(value, length, LENT, NULL, 0, NULL, 0), refusal(rule, 0), numbers, 0);
+}
+
+/* Pair, loads and mark of a site value, and its level. */
+static void expect_judged(const char *what, const uint8_t *value, size_t length, const uint64_t *sampled,
+                          const uint64_t *searched) {
+    expect(what, forest_check(value, length, LENT) == 0);
+    expect_numbers(what, forest_loads(value, length, LENT, numbers, 4), 4, sampled + 2, 4);
+    expect_numbers(what, forest_level(value, length, LENT, numbers, 2), 2, searched, 2);
+    expect_numbers(what, forest_judge(value, length, LENT, numbers, 8), 8, sampled + 2, 8);
+    expect_numbers(what, forest_sample(value, length, LENT, months, MONTHS, numbers, 10), 10, sampled, 10);
+}
+
+/* Kind 55 as site values of 57 bytes, and the refusal 21. */
+static void near_neutral_value_calls(void) {
+    static const uint64_t plain[10] = {500, 700, 735, 205, 1021, 249, 2, 221, 451, 1}, searched[2] = {818, 11};
+    static const uint64_t most[10] = {500, 700, 710, 205, 993, 249, 2, 248, 451, 1}, low[2] = {50, 1};
+    /* 10 - 4 * 1250 / 50 is -90, which leaves 154, and v 791,500; 10 - 254 leaves 0, and 500 + 445,500 / 900 to cut. */
+    static const uint64_t less[10] = {500, 700, 154, 205, 376, 249, 2, 831, 451, 1};
+    static const uint64_t none[10] = {500, 700, 0, 205, 205, 249, 1, 995, 451, 1};
+    uint8_t value[SITE_55 + 1] = {0};
+    memcpy(value, site, SITE);
+    value[50] = 13;
+    expect_judged("P 0", value, SITE_55, plain, searched);
+    value[55] = 5000 >> 8, value[56] = 5000 & 0xFF;
+    expect_judged("P 5000", value, SITE_55, most, searched);
+    expect_judged("the first 55 bytes", value, SITE_54, plain, searched);
+    /* At 20 degrees W is 211, A 430, h 895, M 179 + 430 less 20,000 / 895 up, and v 29,500. */
+    static const uint64_t warm[10] = {500, 700, 916, 205, 1222, 249, 2, 31, 451, 1}, warm_searched[2] = {895, 11};
+    value[50] = 25;
+    expect_judged("P 5000 at 20", value, SITE_55, warm, warm_searched);
+    value[50] = 13;
+    expect_value_refused("a site of 56 bytes", value, SITE_55 - 1, 7);
+    expect_value_refused("a site of 58 bytes", value, SITE_55 + 1, 7);
+    value[CEILING - 1] = 0, value[CEILING] = 50;
+    expect_value_refused("21 by P 5000", value, SITE_55, 21);
+    value[55] = 1250 >> 8, value[56] = 1250 & 0xFF;
+    expect_judged("P 1250", value, SITE_55, less, low);
+    value[55] = 3175 >> 8, value[56] = 3175 & 0xFF;
+    expect_judged("P 3175", value, SITE_55, none, low);
+    value[56]++;
+    expect_value_refused("21 by P 3176", value, SITE_55, 21);
+    expect("15 ahead of 21", forest_check(value, SITE_55, list, sizeof list - 1) == refusal(15, 2 * ENTRY));
+
+    /* All other rules come first: a temperature of 21 degrees, P 5001, a species that the list lacks, no name. */
+    value[50] = 26;
+    expect_value_refused("8 ahead of 21", value, SITE_55, 8);
+    value[50] = 13, value[55] = 5001 >> 8, value[56] = 5001 & 0xFF;
+    expect_value_refused("P 5001", value, SITE_55, 8);
+    value[56]--, value[51] = 2;
+    expect_value_refused("16 ahead of 21", value, SITE_55, 16);
+    value[8] = 0;
+    expect_value_refused("7 ahead of 21", value, SITE_55, 7);
+    value[8] = 2, value[51] = 1;
+    expect_value_refused("21 by species 256", value, SITE_55, 21);
+    value[51] = 0, value[COUNT] = 0;
+    static const uint64_t of_reserve[10] = {500, 700, 35, 50, 88, 94, 1, 1112, 606, 1};
+    expect_judged("a reserve with P 5000", value, SITE_55, of_reserve, low);
+}
+
 int main(void) {
     static const uint64_t sampled[10] = {500, 700, 735, 205, 1021, 249, 2, 221, 451, 1}, *const judged = sampled + 2;
     const size_t length = sizeof listing - 1, page_length = sizeof page - 1;
@@ -554,7 +756,9 @@ int main(void) {
     hot[0] = 0x54;
     expect_text("a stand of four bytes in kind 54", forest_rewrite(hot, RECORD_53, LENT, text, ROOM), refusal(7, STAND), "", 0);
     hot[0] = 0x55;
-    expect_text("an outer tag of 55", forest_rewrite(hot, RECORD_53, LENT, text, ROOM), refusal(3, 0), "", 0);
+    expect_text("a stand of four bytes in kind 55", forest_rewrite(hot, RECORD_53, LENT, text, ROOM), refusal(7, STAND), "", 0);
+    hot[0] = 0x56;
+    expect_text("an outer tag of 56", forest_rewrite(hot, RECORD_53, LENT, text, ROOM), refusal(3, 0), "", 0);
 
     /* A1 in 51 bytes. At 20 degrees t is 1690, so that W is 211, w 168, Bu 181, A 430, h 895, M 179 + 430, and v 6500. */
     static const uint64_t cold[10] = {500, 700, 595, 205, 866, 249, 2, 368, 451, 1}, cold_searched[2] = {755, 11};
@@ -594,6 +798,8 @@ int main(void) {
     convert_calls();
     reserve_file_calls();
     reserve_value_calls();
+    near_neutral_file_calls();
+    near_neutral_value_calls();
 
     printf("%u passed, %u failed\n", passed, failed);
     return failed > 0;

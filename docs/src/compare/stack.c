@@ -1,7 +1,8 @@
 /*
  * Measures the stack that each call of forest.h takes. A call runs on a stack of its own, painted before, with inputs
- * that lead deepest: the greatest values of each kind, a refusal, a buffer too short, and nothing, by null pointers; and with a
- * full species list, a bad one and none. A file is moved to every kind, and to a tag of none.
+ * that lead deepest: the greatest values of each kind, a refusal by the last byte and one by a negative load, a buffer too
+ * short, and nothing, by null pointers; and with a full species list, a bad one and none. A file is moved to every kind that can
+ * be a target, and to one that cannot.
  */
 #include "forest.h"
 
@@ -9,10 +10,14 @@
 #include <string.h>
 #include <ucontext.h>
 
-enum { PAINT = 0xA5, RECORD = 104, FULL = 500 * RECORD, TEXT = 64000, SITE = 55, MONTHS = 204, LISTS = 3 };
+enum { PAINT = 0xA5, RECORD = 109, FULL = 500 * RECORD, TEXT = 64000, SITE = 57, MONTHS = 204, LISTS = 3 };
+/* Kind 54 has no field 11, and no carbon dioxide. */
+enum { RECORD_54 = RECORD - 5, FULL_54 = 500 * RECORD_54, SITE_54 = SITE - 2 };
 /* Kinds 52 and 53 have four bytes to an entry, and kind 52 has no field 10, and no temperature byte. */
-enum { RECORD_53 = RECORD - 4, FULL_53 = 500 * RECORD_53, SITE_53 = SITE - 4 };
+enum { RECORD_53 = RECORD_54 - 4, FULL_53 = 500 * RECORD_53, SITE_53 = SITE_54 - 4 };
 enum { RECORD_52 = RECORD_53 - 4, FULL_52 = 500 * RECORD_52, SITE_52 = SITE_53 - 1 };
+/* The low byte of the ceiling in a record of kind 55 and in a site value. */
+enum { CEILING = 87, CEILING_OF_SITE = 43 };
 enum { FIRST = 256, LAST = 1023, ENTRY = 10, LIST = (LAST - FIRST + 1) * ENTRY };
 
 #define NAME 'Z', 'Z', 'Z', 'Z', 'Z', 'Z', 'Z', 'Z'
@@ -28,22 +33,28 @@ enum { FIRST = 256, LAST = 1023, ENTRY = 10, LIST = (LAST - FIRST + 1) * ENTRY }
         0x27, 0x10, 0x0D, 0, 2, 0x13, 0x88, 0x0E, 0, 2, 0x03, 0xE8, 0x0F, 0, 4, 0xFF, 0xFF, 0xFF, 0xFF
 
 static const uint8_t record[RECORD] = {
+    0x55, 0, 106, FIELDS_01_TO_06, 0x07, 0, 20, LISTED, FIELDS_08_TO_0F, 0x10, 0, 1, 25, 0x11, 0, 2, 0x13, 0x88,
+};
+static const uint8_t record_54[RECORD_54] = {
     0x54, 0, 101, FIELDS_01_TO_06, 0x07, 0, 20, LISTED, FIELDS_08_TO_0F, 0x10, 0, 1, 25,
 };
-/* One that can be moved to every kind. */
-static const uint8_t movable[RECORD] = {
+/* One that can be moved to every target. */
+static const uint8_t movable[RECORD_54] = {
     0x54, 0, 101, FIELDS_01_TO_06, 0x07, 0, 20, WIDE, FIELDS_08_TO_0F, 0x10, 0, 1, 13,
 };
 static const uint8_t record_53[RECORD_53] = {
     0x53, 0, 97, FIELDS_01_TO_06, 0x07, 0, 16, STAND, FIELDS_08_TO_0F, 0x10, 0, 1, 25,
 };
-/* Species 261, 518, 775 and 776 as kind 54. */
+/* Species 261, 518, 775 and 776 as kinds 54 and 55. */
 static const uint8_t site[SITE] = {
     NAME, 8, 4, 100, 0, 200, 5, 0x0B, 0xB8, STAND, 4, 0x01, 0xF4, 85,
     0x13, 0x88, 0x4E, 0x20, 0x27, 0x10, 0x13, 0x88, 0x03, 0xE8, 0xFF, 0xFF, 0xFF, 0xFF, 25, 1, 2, 3, 3,
+    0x13, 0x88,
 };
 static const uint8_t bad_site[SITE], months[MONTHS], bad_months[MONTHS] = {0xFF};
-static uint8_t file[FULL + 1], movable_file[FULL], file_53[FULL_53], file_52[FULL_52], full_list[LIST], text[TEXT];
+static uint8_t file[FULL + 1], file_54[FULL_54 + 1], movable_file[FULL_54], file_53[FULL_53], file_52[FULL_52];
+/* The last record, and the site, have a ceiling at which more bicarbonate leaches than there is to lose. */
+static uint8_t negative_file[FULL], negative_site[SITE], full_list[LIST], text[TEXT];
 static uint64_t numbers[10];
 
 struct input {
@@ -51,19 +62,20 @@ struct input {
     size_t length, room;
 };
 static const struct input files[] = {
-    {file, FULL, TEXT}, {file_53, FULL_53, TEXT}, {file_52, FULL_52, TEXT},
-    {file, FULL + 1, TEXT}, {file, FULL, 0}, {NULL, 0, 0},
+    {file, FULL, TEXT}, {file_54, FULL_54, TEXT}, {file_53, FULL_53, TEXT}, {file_52, FULL_52, TEXT},
+    {file, FULL + 1, TEXT}, {negative_file, FULL, TEXT}, {file, FULL, 0}, {NULL, 0, 0},
 };
 static const struct input records[] = {
-    {file, RECORD, TEXT}, {file_53, RECORD_53, TEXT}, {file_52, RECORD_52, TEXT},
-    {file, RECORD + 1, TEXT}, {file, RECORD, 0}, {NULL, 0, 0},
+    {file, RECORD, TEXT}, {file_54, RECORD_54, TEXT}, {file_53, RECORD_53, TEXT}, {file_52, RECORD_52, TEXT},
+    {file, RECORD + 1, TEXT}, {negative_file + FULL - RECORD, RECORD, TEXT}, {file, RECORD, 0}, {NULL, 0, 0},
 };
 static const struct input moves[] = {
-    {file, FULL, TEXT}, {movable_file, FULL, TEXT}, {file_53, FULL_53, TEXT}, {file_52, FULL_52, TEXT},
-    {file, FULL + 1, TEXT}, {movable_file, FULL, 0}, {NULL, 0, 0},
+    {file, FULL, TEXT}, {file_54, FULL_54, TEXT}, {movable_file, FULL_54, TEXT}, {file_53, FULL_53, TEXT},
+    {file_52, FULL_52, TEXT}, {file_54, FULL_54 + 1, TEXT}, {movable_file, FULL_54, 0}, {NULL, 0, 0},
 };
 static const struct input sites[] = {
-    {site, SITE, 10}, {site, SITE_53, 10}, {site, SITE_52, 10}, {bad_site, SITE, 10}, {site, SITE, 0}, {NULL, 0, 0},
+    {site, SITE, 10}, {site, SITE_54, 10}, {site, SITE_53, 10}, {site, SITE_52, 10},
+    {bad_site, SITE, 10}, {negative_site, SITE, 10}, {site, SITE, 0}, {NULL, 0, 0},
 };
 struct species {
     const uint8_t *bytes;
@@ -128,9 +140,15 @@ static void measure(const char *name, void (*call)(void), const struct input *in
 #define MEASURE(call, inputs) measure("forest_" #call, call, inputs, sizeof inputs / sizeof *inputs)
 
 int main(void) {
-    for (size_t at = 0; at < FULL; at += RECORD) {
+    for (size_t at = 0; at < FULL; at += RECORD)
         memcpy(file + at, record, RECORD);
-        memcpy(movable_file + at, movable, RECORD);
+    memcpy(negative_file, file, FULL);
+    negative_file[FULL - RECORD + CEILING - 1] = 0, negative_file[FULL - RECORD + CEILING] = 1;
+    memcpy(negative_site, site, SITE);
+    negative_site[CEILING_OF_SITE - 1] = 0, negative_site[CEILING_OF_SITE] = 1;
+    for (size_t at = 0; at < FULL_54; at += RECORD_54) {
+        memcpy(file_54 + at, record_54, RECORD_54);
+        memcpy(movable_file + at, movable, RECORD_54);
     }
     for (size_t at = 0; at < FULL_53; at += RECORD_53)
         memcpy(file_53 + at, record_53, RECORD_53);

@@ -2,8 +2,8 @@
 
 use crate::lists;
 use crate::random::Random;
-use crate::sites::{self, KINDS};
-use forest::Kind::{Tag52, Tag53, Tag54};
+use crate::sites::{self, KINDS, TARGETS};
+use forest::Kind::{Tag52, Tag53, Tag54, Tag55};
 use forest::{Kind, Site, EIGHT_DEGREES};
 
 /// A field whose length need not be that of its value.
@@ -36,7 +36,9 @@ fn fields(site: &Site) -> Vec<Field> {
     let entries = stand.iter().flat_map(|entry| {
         let [species, growth] = [entry.species, entry.growth].map(u16::to_be_bytes);
         let bytes = [species[0], species[1], entry.share, growth[0], growth[1]];
-        bytes.into_iter().skip(usize::from(site.kind != Tag54))
+        bytes
+            .into_iter()
+            .skip(usize::from(!site.kind.has_wide_species()))
     });
     let mut values = vec![
         site.name[..usize::from(site.name_length)].to_vec(),
@@ -57,6 +59,9 @@ fn fields(site: &Site) -> Vec<Field> {
     ];
     if site.kind != Tag52 {
         values.push(vec![site.temperature]);
+    }
+    if site.kind == Tag55 {
+        values.push(two(site.carbon_dioxide));
     }
     (0x01..)
         .zip(values)
@@ -99,6 +104,9 @@ pub fn good_records(random: &mut Random, count: usize, list: &[u8]) -> Vec<u8> {
         &[Tag52, Tag53],
         &[Tag52, Tag54],
         &[Tag53, Tag54],
+        &TARGETS,
+        &[Tag55],
+        &[Tag54, Tag55],
         &KINDS,
     ]);
     let any = [(); 2].map(|()| random.pick(&[EVERY, EVERY, FEW, NONE]));
@@ -143,7 +151,7 @@ fn stuck_record(random: &mut Random, kind: Kind, list: &[u8]) -> Vec<u8> {
 fn damaged_record(random: &mut Random, list: &[u8]) -> Vec<u8> {
     let mut site = sites::good(random, list);
     let places = random.pick(&[1, 1, 1, 2, 3]);
-    match random.below(9) {
+    match random.below(12) {
         0..=2 => {
             (0..places).for_each(|_| sites::spoil_value(random, &mut site, list));
             record_of(&site)
@@ -157,15 +165,41 @@ fn damaged_record(random: &mut Random, list: &[u8]) -> Vec<u8> {
         // That of another kind, or the one before or after all.
         7 => {
             let mut record = record_of(&site);
-            record[0] = random.pick(&[0x51, 0x52, 0x53, 0x54, 0x55]);
+            record[0] = random.pick(&[0x51, 0x52, 0x53, 0x54, 0x55, 0x55, 0x56]);
             record
         }
+        8 | 9 => negative_record(random, list),
+        10 => broken_negative(random, list),
         _ => {
             let mut record = record_of(&site);
             (0..places).for_each(|_| damage_bytes(random, &mut record));
             record
         }
     }
+}
+
+/// A record that is refused by 21.
+fn negative_record(random: &mut Random, list: &[u8]) -> Vec<u8> {
+    record_of(&sites::negative(random, list))
+}
+
+/// Such a record with another fault: bytes after its last field, more carbon dioxide than there can be, or any.
+fn broken_negative(random: &mut Random, list: &[u8]) -> Vec<u8> {
+    let mut site = sites::negative(random, list);
+    let mut fields = fields(&site);
+    match random.below(4) {
+        0 => {
+            let more = random.between(1, 5) as usize;
+            fields[16].value.extend(random.bytes(more));
+        }
+        1 => fields[16].value = vec![0x13, 0x89],
+        2 => damage_fields(random, &mut fields),
+        _ => {
+            sites::spoil_value(random, &mut site, list);
+            return record_of(&site);
+        }
+    }
+    assemble(Tag55, &fields)
 }
 
 fn damage_fields(random: &mut Random, fields: &mut Vec<Field>) {
@@ -181,6 +215,7 @@ fn damage_fields(random: &mut Random, fields: &mut Vec<Field>) {
                 0x0F,
                 0x10,
                 0x11,
+                0x12,
                 0x52,
                 field.tag ^ 1,
                 field.tag.wrapping_add(1),
@@ -221,7 +256,7 @@ fn damage_fields(random: &mut Random, fields: &mut Vec<Field>) {
         }
         9 => {
             let more = random.below(4);
-            let (tag, value) = (random.pick(&[0x10, 0x11]), random.bytes(more));
+            let (tag, value) = (random.pick(&[0x10, 0x11, 0x12]), random.bytes(more));
             fields.push(Field::new(tag, value));
         }
         // Nothing left where a field is due.
@@ -286,11 +321,19 @@ pub fn record(random: &mut Random, list: &[u8]) -> Vec<u8> {
         }
         3 | 4 => {
             let more = random.between(1, 4) as usize;
-            [good_record(random, list), random.bytes(more)].concat()
+            [good_or_negative(random, list), random.bytes(more)].concat()
         }
-        5 => good_records(random, 2, list),
+        5 => [good_or_negative(random, list), good_record(random, list)].concat(),
         6..=19 => good_record(random, list),
         _ => damaged_record(random, list),
+    }
+}
+
+fn good_or_negative(random: &mut Random, list: &[u8]) -> Vec<u8> {
+    if random.one_in(4) {
+        negative_record(random, list)
+    } else {
+        good_record(random, list)
     }
 }
 
@@ -322,6 +365,9 @@ pub fn file(random: &mut Random, list: &[u8]) -> Vec<u8> {
             let at = random.below(count);
             let mut file = good_records(random, at, list);
             file.extend(damaged_record(random, list));
+            if random.one_in(4) {
+                file.extend(damaged_record(random, list));
+            }
             file.extend(good_records(random, count - at - 1, list));
             file
         }
@@ -371,20 +417,26 @@ pub fn border_files(random: &mut Random, list: &[u8]) -> Vec<Vec<u8>> {
     let whole = outer(record[0], whole);
     let long_name = outer(0x54, Field::new(0x01, vec![b'A'; 252]).bytes());
     let [stuck_53, stuck_54] = [Tag53, Tag54].map(|kind| {
-        let movable = records_of(random, 499, &KINDS, [NONE, NONE], list);
+        let movable = records_of(random, 499, &TARGETS, [NONE, NONE], list);
         [movable, stuck_record(random, kind, list)].concat()
     });
+    let negative = negative_record(random, list);
     vec![
         good_records(random, 500, list),
         good_records(random, 501, list),
         longest_records(random, 500, list),
         longest_records(random, 501, list),
+        longest_movable(random, 500, list),
+        longest_movable(random, 501, list),
+        [&longest_records(random, 499, list)[..], &negative].concat(),
+        [&longest_movable(random, 499, list)[..], &negative, &[0x55]].concat(),
         shortest_records(random, 500),
         shortest_records(random, 501),
         stuck_53,
         stuck_54,
         [&longest_records(random, 500, list)[..], &[0x52]].concat(),
         [&longest_records(random, 500, list)[..], &[0x54]].concat(),
+        [&longest_movable(random, 500, list)[..], &[0x55]].concat(),
         [&shortest_records(random, 500)[..], &[0x52]].concat(),
         [&longest_records(random, 499, list)[..], &long_name].concat(),
         [&longest_records(random, 499, list)[..], &whole].concat(),
@@ -397,6 +449,8 @@ pub fn border_files(random: &mut Random, list: &[u8]) -> Vec<Vec<u8>> {
         vec![0x52; 400_000],
         vec![0x54; 129_000],
         vec![0x54; 400_000],
+        vec![0x55; 129_000],
+        vec![0x55; 400_000],
     ]
 }
 
@@ -410,12 +464,24 @@ pub fn page_border_files(random: &mut Random, list: &[u8]) -> Vec<Vec<u8>> {
         .map(|&count| good_records(random, count, list))
         .collect();
     files.push([&longest_records(random, 59, list)[..], &[0x52]].concat());
-    files.push([longest_records(random, 118, list), outer(0x54, vec![0x01])].concat());
+    files.push([longest_movable(random, 118, list), outer(0x54, vec![0x01])].concat());
+    files.push(
+        [
+            longest_records(random, 59, list),
+            negative_record(random, list),
+        ]
+        .concat(),
+    );
     files
 }
 
-/// Valid records of 104 bytes each: of kind 54, a name of eight, a stand of four.
+/// Valid records of 109 bytes each: of kind 55, a name of eight, a stand of four.
 fn longest_records(random: &mut Random, count: usize, list: &[u8]) -> Vec<u8> {
+    records_of_length(109, count, || sites::good_of(random, Tag55, 4, list))
+}
+
+/// The longest that can be moved, of 104 bytes each: such records of kind 54.
+fn longest_movable(random: &mut Random, count: usize, list: &[u8]) -> Vec<u8> {
     records_of_length(104, count, || sites::good_of(random, Tag54, 4, list))
 }
 

@@ -16,12 +16,15 @@ pub(crate) fn ranged(random: &mut Random, low: i64, high: i64) -> i64 {
     }
 }
 
-pub const KINDS: [Kind; 3] = [Kind::Tag52, Kind::Tag53, Kind::Tag54];
+pub const KINDS: [Kind; 4] = [Kind::Tag52, Kind::Tag53, Kind::Tag54, Kind::Tag55];
+/// The kinds that a conversion takes and gives.
+pub const TARGETS: [Kind; 3] = [Kind::Tag52, Kind::Tag53, Kind::Tag54];
 
 /// A site of any kind that passes the checks with a list, with a pair of any region. What is no part of it holds anything: name
-/// bytes, entries, and the temperature of kind 52.
+/// bytes, entries, the temperature of kind 52, and the carbon dioxide of the kinds before 55.
 pub fn good(random: &mut Random, list: &[u8]) -> Site {
-    let kind = random.pick(&[KINDS[0], KINDS[1], KINDS[2], KINDS[2]]);
+    let [k52, k53, k54, k55] = KINDS;
+    let kind = random.pick(&[k52, k53, k54, k54, k55, k55]);
     let entries = entries(random);
     good_of(random, kind, entries, list)
 }
@@ -65,15 +68,87 @@ pub fn good_of(random: &mut Random, kind: Kind, entries: u8, list: &[u8]) -> Sit
             Kind::Tag52 => random.byte(),
             _ => ranged(random, 0, 25) as u8,
         },
+        carbon_dioxide: random.word() as u16,
     };
+    if kind == Kind::Tag55 && random.one_in(2) {
+        weaken(random, &mut site);
+    }
+    set_loss(random, &mut site, list);
     set_pair(random, &mut site, list);
     site
 }
 
-/// Moves a good site to 8 °C, with a pair of any region there.
+/// Moves a good site to 8 °C, with carbon dioxide and a pair of any region there.
 pub fn make_mild(random: &mut Random, site: &mut Site, list: &[u8]) {
     site.temperature = EIGHT_DEGREES;
+    set_loss(random, site, list);
     set_pair(random, site, list);
+}
+
+/// Gives a site a low level, at which much bicarbonate leaches, and often little to lose.
+fn weaken(random: &mut Random, site: &mut Site) {
+    let highest = random.pick(&[10, 60, 200]);
+    site.hydrogen_ceiling = ranged(random, 1, highest) as u16;
+    if random.one_in(2) {
+        site.base_deposition = ranged(random, 0, 300) as u16;
+        site.root_depth = ranged(random, 1, 20) as u8;
+    }
+}
+
+/// Sets the carbon dioxide of a site of kind 55 that is else good so that it stays so, often at the border of a CLmaxS of 0 or of
+/// an M of 0. Its bicarbonate is at most a loss where Q × P is at most 50 × h × the loss.
+fn set_loss(random: &mut Random, site: &mut Site, list: &[u8]) {
+    let Some(most) = most_carbon_dioxide(site, list) else {
+        return;
+    };
+    let [to_no_load, to_no_net] = most;
+    let p = match random.below(10) {
+        0 => 0,
+        1 => 1,
+        2 | 3 => to_no_load,
+        4 => to_no_load - random.between(0, 3),
+        5 => to_no_net,
+        6 => to_no_net + random.between(-1, 1),
+        7 => 5000,
+        _ => random.between(0, to_no_load),
+    };
+    site.carbon_dioxide = p.clamp(0, to_no_load) as u16;
+}
+
+/// The most carbon dioxide at which CLmaxS, and M, of a site of kind 55 that is else good are not below 0.
+fn most_carbon_dioxide(site: &Site, list: &[u8]) -> Option<[i64; 2]> {
+    if site.kind != Kind::Tag55 {
+        return None;
+    }
+    let without_loss = Site {
+        carbon_dioxide: 0,
+        ..*site
+    };
+    let terms = terms(&without_loss, list).expect("a good site");
+    let losses = [terms.loads(site).max_s, terms.acid_leaching];
+    let most = |loss| 50 * terms.level * loss / i64::from(site.percolation);
+    Some(losses.map(|loss| most(loss).min(5000)))
+}
+
+/// A site of kind 55 that is refused by 21 alone: often CLmaxS would be −1.
+pub fn negative(random: &mut Random, list: &[u8]) -> Site {
+    loop {
+        let entries = entries(random);
+        let mut site = good_of(random, Kind::Tag55, entries, list);
+        weaken(random, &mut site);
+        match most_carbon_dioxide(&site, list) {
+            Some([most, _]) if most < 5000 => {
+                let p = match random.below(4) {
+                    0 | 1 => most + 1,
+                    2 => 5000,
+                    _ => random.between(most + 1, 5000),
+                };
+                site.carbon_dioxide = p as u16;
+                return site;
+            }
+            _ => {}
+        }
+    }
 }
 
 /// A site with a stand that does not grow in place of its own.
@@ -98,7 +173,7 @@ fn name(random: &mut Random, length: u8) -> [u8; 8] {
 /// Species of the table and, in kind 54, of the list.
 fn stand(random: &mut Random, kind: Kind, entries: u8, list: &[u8]) -> [Entry; 4] {
     let mut stand = [Entry::default(); 4].map(|_| Entry {
-        species: if kind == Kind::Tag54 {
+        species: if kind.has_wide_species() {
             random.word() as u16
         } else {
             random.byte().into()
@@ -107,7 +182,7 @@ fn stand(random: &mut Random, kind: Kind, entries: u8, list: &[u8]) -> [Entry; 4
         growth: random.word() as u16,
     });
     let listed: Vec<u16> = lists::numbers(list).collect();
-    let of_list = if kind == Kind::Tag54 {
+    let of_list = if kind.has_wide_species() {
         random.below(listed.len().min(entries.into()) + 1)
     } else {
         0
@@ -188,9 +263,9 @@ fn set_pair(random: &mut Random, site: &mut Site, list: &[u8]) {
 }
 
 /// Takes one value of a site out of its range. Lengths stay as they are, but that a reserve gets a stand where a value of an entry
-/// is taken; a site with a bad temperature is of kind 53 or 54.
+/// is taken; a site with a bad temperature is of kind 53 or later, and one with too much carbon dioxide of kind 55.
 pub fn spoil_value(random: &mut Random, site: &mut Site, list: &[u8]) {
-    match random.below(24) {
+    match random.below(25) {
         0 => {
             let at = random.below(usize::from(site.name_length.clamp(1, 8)));
             site.name[at] = random.pick(b"@[/:,.`az_ \0\x80\xFF");
@@ -212,7 +287,7 @@ pub fn spoil_value(random: &mut Random, site: &mut Site, list: &[u8]) {
         5 => site.percolation = random.pick(&[0, 3001, 65535]),
         6 | 23 => {
             let species = match site.kind {
-                Kind::Tag54 => {
+                Kind::Tag54 | Kind::Tag55 => {
                     random.pick(&[9, 9, 10, 200, 255, 255, 1024, 1024, 1025, 2048, 65535])
                 }
                 _ => random.pick(&[9, 10, 255]),
@@ -233,6 +308,13 @@ pub fn spoil_value(random: &mut Random, site: &mut Site, list: &[u8]) {
                 site.kind = Kind::Tag53;
             }
             site.temperature = random.pick(&[26, 27, 128, 251, 255]);
+        }
+        24 => {
+            if site.kind == Kind::Tag52 {
+                site.temperature = EIGHT_DEGREES;
+            }
+            site.kind = Kind::Tag55;
+            site.carbon_dioxide = random.pick(&[5001, 5001, 5002, 32768, 65535]);
         }
         17..=19 => spoil_species(random, site, list),
         _ => spoil_shares(random, site, list),
@@ -279,14 +361,18 @@ fn spoil_shares(random: &mut Random, site: &mut Site, list: &[u8]) {
     }
 }
 
-/// A site value as its 50, 51 or 55 bytes, or as another number of bytes: often good with a list, else broken in one or more
-/// ways.
+/// A site value as its 50, 51, 55 or 57 bytes, or as another number of bytes: often good with a list, else refused by 21, or
+/// broken in one or more ways.
 pub fn value(random: &mut Random, list: &[u8]) -> Vec<u8> {
     if random.one_in(64) {
-        let length = random.pick(&[50, 51, 55]);
+        let length = random.pick(&[50, 51, 55, 57]);
         return random.bytes(length);
     }
-    let mut site = good(random, list);
+    let mut site = if random.one_in(8) {
+        negative(random, list)
+    } else {
+        good(random, list)
+    };
     if random.one_in(3) {
         for _ in 0..random.pick(&[1, 1, 1, 2, 4]) {
             match random.below(8) {
@@ -302,14 +388,16 @@ pub fn value(random: &mut Random, list: &[u8]) -> Vec<u8> {
         value[at] = random.byte();
     }
     if random.one_in(64) {
-        // Between 50, 51 and 55 the value is then of another kind.
-        let length = random.pick(&[0, 1, 49, 49, 50, 51, 52, 52, 53, 54, 54, 55, 56, 56, 100]);
+        // Between 50, 51, 55 and 57 the value is then of another kind.
+        let length = random.pick(&[
+            0, 1, 49, 49, 50, 51, 52, 52, 53, 54, 54, 55, 56, 56, 57, 58, 58, 100,
+        ]);
         value.resize(length, random.pick(&[0, 13, 25, 26]));
     }
     value
 }
 
-/// The bytes of a site value: 50 of kind 52, 51 of kind 53, 55 of kind 54.
+/// The bytes of a site value: 50 of kind 52, 51 of kind 53, 55 of kind 54, 57 of kind 55.
 pub fn bytes(site: &Site) -> Vec<u8> {
     let mut value = site.name.to_vec();
     value.extend([
@@ -342,8 +430,11 @@ pub fn bytes(site: &Site) -> Vec<u8> {
     if site.kind != Kind::Tag52 {
         value.push(site.temperature);
     }
-    if site.kind == Kind::Tag54 {
+    if site.kind.has_wide_species() {
         value.extend(site.stand.map(|entry| (entry.species >> 8) as u8));
+    }
+    if site.kind == Kind::Tag55 {
+        value.extend(site.carbon_dioxide.to_be_bytes());
     }
     value
 }

@@ -3,12 +3,13 @@ use crate::record::{each_record, push_record};
 use crate::refusal::{lend, Refusal, Rule};
 use crate::site::{Kind, Site, EIGHT_DEGREES};
 
-/// Writes the records of a file, all of them moved to the kind with the outer tag `target`.
+/// Writes the records of a file, all of them moved to the kind with the outer tag `target`. Neither they nor the target are of
+/// kind 55.
 pub fn convert(file: &[u8], list: &[u8], target: u8, out: &mut [u8]) -> Result<usize, Refusal> {
-    let kind = Kind::of_tag(target).ok_or(Rule::OuterTag.at(0))?;
+    let kind = Kind::of_tag(target, Kind::MOVED).ok_or(Rule::OuterTag.at(0))?;
     let mut moved = Vec::with_capacity(file.len());
     let mut first_misfit = None;
-    each_record(file, list, MOST_RECORDS, |start, site, _| {
+    each_record(file, list, MOST_RECORDS, Kind::MOVED, |start, site, _| {
         if first_misfit.is_none() {
             first_misfit = misfit(site, kind).map(|tag| field_at(file, start, tag));
         }

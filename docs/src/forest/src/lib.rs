@@ -1,6 +1,7 @@
 //! Critical loads, exceedances and verdicts of forest sites, as document 01 and E2 of document 02 state them, with the pages of E1,
-//! the rain sampler of E3, the hydrogen search of E4, the temperature of E5, the species list of E6, the conversion of E7 and the
-//! reserves of E8. Every call that takes a file, a record or a site takes the bytes of the list after it.
+//! the rain sampler of E3, the hydrogen search of E4, the temperature of E5, the species list of E6, the conversion of E7, the
+//! reserves of E8 and the bicarbonate of near-neutral soils. Every call that takes a file, a record or a site takes the bytes of
+//! the list after it.
 //!
 //! Numbers are `i64` throughout, but for those of which t is worked out: the greatest product, Q × K × h³, is 3.75 × 10¹⁸.
 
@@ -29,4 +30,4 @@ pub use sampler::{months_from_bytes, sample, year, Month, Reading, Sampled};
 pub use site::{check, Entry, Kind, Site, EIGHT_DEGREES};
 pub use species::check_list;
 pub use temperature::temperature_factor;
-pub use terms::{aluminium, hydrogen, loads, terms, texture_class, Loads, Terms};
+pub use terms::{aluminium, bicarbonate, hydrogen, loads, terms, texture_class, Loads, Terms};

@@ -1,6 +1,7 @@
 use crate::judgement::{judge_checked, Judgement};
 use crate::record::each_record;
 use crate::refusal::{lend, Refusal};
+use crate::site::Kind;
 
 pub(crate) const MOST_RECORDS: usize = 500;
 pub(crate) const HEADER: &str = "id maxS minN maxN nutN region acidEx nutEx verdict";
@@ -22,7 +23,7 @@ fn listing(file: &[u8], list: &[u8]) -> Result<Vec<u8>, Refusal> {
     let mut lines = Vec::with_capacity(HEADER.len() + 1 + file.len());
     lines.extend_from_slice(HEADER.as_bytes());
     lines.push(b'\n');
-    each_record(file, list, MOST_RECORDS, |_, site, contents| {
+    each_record(file, list, MOST_RECORDS, Kind::ALL, |_, site, contents| {
         push_line(&mut lines, site.name(), &judge_checked(site, contents))
     })?;
     Ok(lines)

@@ -2,7 +2,7 @@ use crate::judgement::judge_checked;
 use crate::listing::{HEADER, MOST_RECORDS};
 use crate::record::each_record;
 use crate::refusal::{lend, Refusal};
-use crate::site::Site;
+use crate::site::{Kind, Site};
 use crate::species::StandContents;
 use std::fmt::Write;
 
@@ -37,7 +37,7 @@ const COLUMNS: [(Aligned, usize); 9] = [
 /// Writes the pages of a file of records, one after the other.
 pub fn pages(file: &[u8], list: &[u8], out: &mut [u8]) -> Result<usize, Refusal> {
     let mut sites = Vec::new();
-    each_record(file, list, MOST_RECORDS, |_, site, contents| {
+    each_record(file, list, MOST_RECORDS, Kind::ALL, |_, site, contents| {
         sites.push(site_line(site, contents))
     })?;
     let header = header_line();

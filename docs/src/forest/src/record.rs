@@ -1,18 +1,21 @@
 use crate::refusal::{lend, Refusal, Rule};
-use crate::site::{check, check_field, Entry, Kind, Site, EIGHT_DEGREES};
+use crate::site::{check, check_field, check_load, Entry, Kind, Site, EIGHT_DEGREES};
 use crate::species::{SpeciesList, StandContents};
+
+/// The bytes of field 11, which is the last.
+const FIELD_11: usize = 5;
 
 /// Reads a single record: a file of at most one.
 pub fn read_record(input: &[u8], list: &[u8]) -> Result<Site, Refusal> {
     let mut read = Site::default();
-    each_record(input, list, 1, |_, site, _| read = *site)?;
+    each_record(input, list, 1, Kind::ALL, |_, site, _| read = *site)?;
     Ok(read)
 }
 
 /// Writes the record of a site value, once it passes the checks.
 pub fn write_record(site: &Site, list: &[u8], out: &mut [u8]) -> Result<usize, Refusal> {
     check(site, list)?;
-    let mut record = Vec::with_capacity(104);
+    let mut record = Vec::with_capacity(109);
     push_record(&mut record, site);
     lend(&record, out)
 }
@@ -25,9 +28,10 @@ pub(crate) fn push_record(records: &mut Vec<u8>, site: &Site) {
         records.extend([tag, 0, value.len() as u8]);
         records.extend(value);
     };
-    let stand: Vec<u8> = match site.kind {
-        Kind::Tag54 => site.stand().iter().flat_map(five_bytes).collect(),
-        _ => site.stand().iter().flat_map(four_bytes).collect(),
+    let stand: Vec<u8> = if site.kind.has_wide_species() {
+        site.stand().iter().flat_map(five_bytes).collect()
+    } else {
+        site.stand().iter().flat_map(four_bytes).collect()
     };
     field(0x01, site.name());
     field(0x02, &[site.parent_material]);
@@ -48,6 +52,9 @@ pub(crate) fn push_record(records: &mut Vec<u8>, site: &Site) {
     if site.kind != Kind::Tag52 {
         field(0x10, &[site.temperature]);
     }
+    if site.kind == Kind::Tag55 {
+        field(0x11, &site.carbon_dioxide.to_be_bytes());
+    }
     records[start + 2] = (records.len() - start - 3) as u8;
 }
 
@@ -67,12 +74,13 @@ pub fn rewrite(record: &[u8], list: &[u8], out: &mut [u8]) -> Result<usize, Refu
     write_record(&read_record(record, list)?, list, out)
 }
 
-/// Checks the list, then walks a file of at most `most` records from the left, up to its end or its first fault. Each record is
-/// taken with the place where it starts.
+/// Checks the list, then walks a file of at most `most` records, which are of some `kinds`, from the left, up to its end or its
+/// first fault. Each record is taken with the place where it starts.
 pub(crate) fn each_record(
     file: &[u8],
     list: &[u8],
     most: usize,
+    kinds: &[Kind],
     mut take: impl FnMut(usize, &Site, &StandContents),
 ) -> Result<(), Refusal> {
     let list = SpeciesList::checked(list)?;
@@ -87,7 +95,7 @@ pub(crate) fn each_record(
         let &[tag, high, low, ref rest @ ..] = &file[at..] else {
             return Err(Rule::OuterCut.at(at));
         };
-        let kind = Kind::of_tag(tag).ok_or(Rule::OuterTag.at(at))?;
+        let kind = Kind::of_tag(tag, kinds).ok_or(Rule::OuterTag.at(at))?;
         let length = usize::from(u16::from_be_bytes([high, low]));
         if length > 255 || length > rest.len() {
             return Err(Rule::OuterCut.at(at));
@@ -100,7 +108,7 @@ pub(crate) fn each_record(
     Ok(())
 }
 
-/// Reads the fields of a record of a kind; `start` is where they begin in the input.
+/// Reads the fields of a record of a kind; `start` is where they begin in the input. Rule 21 comes last, at field 11.
 fn read_fields(
     kind: Kind,
     fields: &[u8],
@@ -123,11 +131,11 @@ fn read_fields(
             .map_err(|rule| rule.at(at))?;
         rest = after;
     }
-    if rest.is_empty() {
-        Ok((site, contents))
-    } else {
-        Err(Rule::InnerTag.at(end - rest.len()))
+    if !rest.is_empty() {
+        return Err(Rule::InnerTag.at(end - rest.len()));
     }
+    check_load(&site, &contents).map_err(|rule| rule.at(end - FIELD_11))?;
+    Ok((site, contents))
 }
 
 /// Splits off the value of the field with the tag that is due.
@@ -159,7 +167,9 @@ fn set(site: &mut Site, tag: u8, value: &[u8]) -> Result<(), Rule> {
         (0x04, &[v]) => site.root_depth = v,
         (0x05, &[v]) => site.drainage = v,
         (0x06, &[a, b]) => site.percolation = u16::from_be_bytes([a, b]),
-        (0x07, _) if site.kind == Kind::Tag54 => set_stand(site, value, |bytes: [u8; 5]| bytes)?,
+        (0x07, _) if site.kind.has_wide_species() => {
+            set_stand(site, value, |bytes: [u8; 5]| bytes)?
+        }
         (0x07, _) => set_stand(site, value, |[species, rest @ ..]: [u8; 4]| {
             [0, species, rest[0], rest[1], rest[2]]
         })?,
@@ -175,6 +185,7 @@ fn set(site: &mut Site, tag: u8, value: &[u8]) -> Result<(), Rule> {
             site.nitrogen = u16::from_be_bytes([c, d]);
         }
         (0x10, &[v]) => site.temperature = v,
+        (0x11, &[a, b]) => site.carbon_dioxide = u16::from_be_bytes([a, b]),
         _ => return Err(Rule::Length),
     }
     Ok(())

@@ -20,6 +20,7 @@ pub enum Rule {
     List = 15,
     Unlisted = 16,
     Misfit = 17,
+    NegativeLoad = 21,
 }
 
 /// A broken rule, and where in the lent input.

@@ -1,5 +1,6 @@
 use crate::refusal::{Refusal, Rule};
 use crate::species::{SpeciesList, StandContents, IN_LIST, IN_TABLE};
+use crate::terms::Terms;
 use std::ops::RangeInclusive;
 
 /// The kind of a record, by its outer tag.
@@ -12,13 +13,19 @@ pub enum Kind {
     Tag53 = 0x53,
     /// Those of 53, with two bytes for a species.
     Tag54 = 0x54,
+    /// Those of 54 and field 11, the carbon dioxide of the soil.
+    Tag55 = 0x55,
 }
 
 impl Kind {
-    pub(crate) fn of_tag(tag: u8) -> Option<Kind> {
-        [Kind::Tag52, Kind::Tag53, Kind::Tag54]
-            .into_iter()
-            .find(|&kind| kind as u8 == tag)
+    pub(crate) const ALL: &[Kind] = &[Kind::Tag52, Kind::Tag53, Kind::Tag54, Kind::Tag55];
+    /// Those from which and to which records are moved.
+    pub(crate) const MOVED: &[Kind] = &[Kind::Tag52, Kind::Tag53, Kind::Tag54];
+
+    /// The one of some kinds that has a tag.
+    #[inline(always)]
+    pub(crate) fn of_tag(tag: u8, kinds: &[Kind]) -> Option<Kind> {
+        kinds.iter().copied().find(|&kind| kind as u8 == tag)
     }
 
     /// The tags due in its records.
@@ -27,12 +34,19 @@ impl Kind {
         match self {
             Kind::Tag52 => 0x01..=0x0F,
             Kind::Tag53 | Kind::Tag54 => 0x01..=0x10,
+            Kind::Tag55 => 0x01..=0x11,
         }
+    }
+
+    /// Whether a species has two bytes.
+    #[inline(always)]
+    pub fn has_wide_species(self) -> bool {
+        matches!(self, Kind::Tag54 | Kind::Tag55)
     }
 
     #[inline]
     fn has_species(self, species: u16) -> bool {
-        IN_TABLE.contains(&species) || self == Kind::Tag54 && IN_LIST.contains(&species)
+        IN_TABLE.contains(&species) || self.has_wide_species() && IN_LIST.contains(&species)
     }
 }
 
@@ -75,17 +89,21 @@ pub struct Site {
     pub nitrogen: u16,
     /// °C above −5; no part of a site of kind 52.
     pub temperature: u8,
+    /// P, that of the soil, in 0.00001 atm; no part of a site but of kind 55.
+    pub carbon_dioxide: u16,
 }
 
 impl Site {
-    /// The site value of `docs/forest.h`: 50 bytes are of kind 52, 51 of kind 53, 55 of kind 54, and another length is refused.
+    /// The site value of `docs/forest.h`: 50 bytes are of kind 52, 51 of kind 53, 55 of kind 54, 57 of kind 55, and another
+    /// length is refused.
     pub fn from_bytes(bytes: &[u8]) -> Result<Site, Refusal> {
         let wrong_length = Rule::Length.at(0);
         let (b, rest) = bytes.split_first_chunk::<50>().ok_or(wrong_length)?;
-        let (kind, temperature, species_high) = match *rest {
-            [] => (Kind::Tag52, EIGHT_DEGREES, [0; 4]),
-            [temperature] => (Kind::Tag53, temperature, [0; 4]),
-            [temperature, a, b, c, d] => (Kind::Tag54, temperature, [a, b, c, d]),
+        let (kind, temperature, species_high, carbon_dioxide) = match *rest {
+            [] => (Kind::Tag52, EIGHT_DEGREES, [0; 4], [0; 2]),
+            [temperature] => (Kind::Tag53, temperature, [0; 4], [0; 2]),
+            [temperature, a, b, c, d] => (Kind::Tag54, temperature, [a, b, c, d], [0; 2]),
+            [temperature, a, b, c, d, p0, p1] => (Kind::Tag55, temperature, [a, b, c, d], [p0, p1]),
             _ => return Err(wrong_length),
         };
         let two = |at: usize| u16::from_be_bytes([b[at], b[at + 1]]);
@@ -119,6 +137,7 @@ impl Site {
             sulphur: two(46),
             nitrogen: two(48),
             temperature,
+            carbon_dioxide: u16::from_be_bytes(carbon_dioxide),
         })
     }
 
@@ -131,7 +150,7 @@ impl Site {
     }
 }
 
-/// Rule 15 over a list, then 7 to 10 and 16 over a whole site value, in the order of the tags.
+/// Rule 15 over a list, then 7 to 10 and 16 over a whole site value, in the order of the tags, then 21.
 pub fn check(site: &Site, list: &[u8]) -> Result<(), Refusal> {
     stand_contents(site, list).map(|_| ())
 }
@@ -143,6 +162,7 @@ pub(crate) fn stand_contents(site: &Site, list: &[u8]) -> Result<StandContents, 
     for tag in site.kind.tags() {
         check_field(site, tag, list, &mut contents).map_err(|rule| rule.at(0))?;
     }
+    check_load(site, &contents).map_err(|rule| rule.at(0))?;
     Ok(contents)
 }
 
@@ -178,9 +198,17 @@ pub(crate) fn check_field(
         0x0D => (1..=5000).contains(&site.hydrogen_ceiling),
         0x0E => (1..=1000).contains(&site.leachate_nitrogen),
         0x10 => site.temperature <= 25,
+        0x11 => site.carbon_dioxide <= 5000,
         _ => true,
     };
     demand(in_range, Rule::Range)
+}
+
+/// Rule 21 over a site that passes the others. Bicarbonate is lost in kind 55 alone; elsewhere CLmaxS is never below 0.
+#[inline]
+pub(crate) fn check_load(site: &Site, contents: &StandContents) -> Result<(), Rule> {
+    let has_load = site.kind != Kind::Tag55 || Terms::of(site, contents).max_s(site) >= 0;
+    demand(has_load, Rule::NegativeLoad)
 }
 
 #[inline(always)]

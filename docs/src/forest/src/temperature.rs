@@ -14,7 +14,7 @@ static FACTORS: LazyLock<[i64; 26]> =
 pub fn temperature_factor(site: &Site) -> i64 {
     match site.kind {
         Kind::Tag52 => 1000,
-        Kind::Tag53 | Kind::Tag54 => FACTORS[usize::from(site.temperature)],
+        Kind::Tag53 | Kind::Tag54 | Kind::Tag55 => FACTORS[usize::from(site.temperature)],
     }
 }
 

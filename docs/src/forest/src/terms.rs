@@ -1,6 +1,6 @@
 use crate::level::{search, Found};
 use crate::refusal::Refusal;
-use crate::site::{stand_contents, Site};
+use crate::site::{stand_contents, Kind, Site};
 use crate::species::StandContents;
 use crate::temperature::temperature_factor;
 
@@ -21,7 +21,7 @@ pub struct Terms {
     pub level: i64,
     /// How many levels were compared with A to find it.
     pub compared: i64,
-    /// M, hydrogen and aluminium leached at the greatest allowed h.
+    /// M, the net leaching at the greatest allowed h: hydrogen and aluminium less bicarbonate, which may be below 0.
     pub acid_leaching: i64,
     /// e, what denitrification leaves, per mille.
     pub left: i64,
@@ -109,6 +109,18 @@ pub fn aluminium(site: &Site, h: i64) -> i64 {
     dissolved / 1_000_000_000_000
 }
 
+/// Bicarbonate leached at level h, from 1 on; 0 but in kind 55.
+#[inline]
+pub fn bicarbonate(site: &Site, h: i64) -> i64 {
+    match site.kind {
+        Kind::Tag55 => {
+            let [percolation, p] = [site.percolation, site.carbon_dioxide].map(i64::from);
+            up(percolation * p, 50 * h)
+        }
+        Kind::Tag52 | Kind::Tag53 | Kind::Tag54 => 0,
+    }
+}
+
 impl Terms {
     /// The terms of a site that passes the checks, with the contents of its stand's entries.
     pub(crate) fn of(site: &Site, contents: &StandContents) -> Terms {
@@ -132,7 +144,8 @@ impl Terms {
             aluminium_limit,
             level,
             compared,
-            acid_leaching: hydrogen(site, level) + aluminium(site, level),
+            acid_leaching: hydrogen(site, level) + aluminium(site, level)
+                - bicarbonate(site, level),
             left: 1000 - denitrified(site),
             leaching: percolation * i64::from(site.leachate_nitrogen) / 100,
         }
@@ -143,8 +156,13 @@ impl Terms {
         i64::from(site.base_deposition) + self.weathering - self.base_uptake
     }
 
+    /// CLmaxS, below 0 where rule 21 refuses the site.
+    pub(crate) fn max_s(&self, site: &Site) -> i64 {
+        self.base_supply(site) + self.acid_leaching
+    }
+
     pub fn loads(&self, site: &Site) -> Loads {
-        let max_s = self.base_supply(site) + self.acid_leaching;
+        let max_s = self.max_s(site);
         let min_n = self.nitrogen_uptake + i64::from(site.immobilisation);
         Loads {
             max_s,

@@ -2,27 +2,18 @@
 
 mod common;
 
-use common::{a1, a1_as, a1_with, bytes, outer, A1_FIELDS};
+use common::{a1, a1_as, a1_with, bytes, outer, A1_FIELDS, FOUR, FOUR_WIDE, LONG_NAME, MILD, PINE};
 use forest::{convert, judge, list, read_record, Refusal};
 
 const TAGS: [u8; 3] = [0x52, 0x53, 0x54];
 
-/// Field 10 at 8 °C, and at a degree less and more.
-const MILD: &str = "10 0001 0D";
+/// Field 10 at a degree less than 8 °C, and at one more.
 const COOL: &str = "10 0001 0C";
 const WARM: &str = "10 0001 0E";
 
-/// A1's field 07 in kind 54, and such fields of the two species in the list.
-const PINE: &str = "07 0005 0000 64 07D0";
+/// A1's field 07 in kind 54 with either of the two species in the list.
 const FIRST: &str = "07 0005 0100 64 07D0";
 const LAST: &str = "07 0005 03FF 64 07D0";
-
-/// A field 07 of four entries with one byte for a species, and with two.
-const FOUR: &str = "07 0010  00 19 0000  01 19 0001  05 19 0100  08 19 4E20";
-const FOUR_WIDE: &str = "07 0014  0000 19 0000  0001 19 0001  0005 19 0100  0008 19 4E20";
-
-/// A field 01 of eight bytes.
-const LONG_NAME: &str = "01 0008 4F414B2D57454C4C";
 
 /// Species 256 with the contents of pine, and 1023.
 fn species() -> Vec<u8> {

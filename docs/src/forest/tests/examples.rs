@@ -72,6 +72,7 @@ fn a1_is_read_value_by_value() {
         sulphur: 500,
         nitrogen: 700,
         temperature: 13,
+        carbon_dioxide: 0,
     };
     assert_eq!(a1_site(), expected);
 }

@@ -207,7 +207,7 @@ fn a_fault_on_a_later_page_leaves_the_buffer() {
     assert_eq!(first_page.len(), 4720);
     let after = |more: &[u8]| refused(&[&first_page, more].concat(), 40_000);
     assert_eq!(after(&a1()[..77]), (2, 4720));
-    assert_eq!(after(&bytes("55 0000")), (3, 4720));
+    assert_eq!(after(&bytes("56 0000")), (3, 4720));
     assert_eq!(after(&bytes("52 0001 01")), (5, 4723));
     assert_eq!(after(&bytes("52 0000")), (6, 4723));
     assert_eq!(after(&a1_with(&["0F 0002 01F4"])), (7, 4720 + 71));

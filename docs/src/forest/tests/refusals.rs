@@ -1,5 +1,6 @@
 //! Each refusal of document 01 with its offset, and those of E5's field 10; every one leaves the buffer as it was. Those of E6
-//! stand in `species.rs`, that of E7 in `convert.rs`, and what is left of them at a reserve in `reserves.rs`.
+//! stand in `species.rs`, that of E7 in `convert.rs`, what is left of them at a reserve in `reserves.rs`, and those of field 11 and a
+//! negative CLmaxS in `bicarbonate.rs`.
 
 mod common;
 
@@ -36,8 +37,8 @@ fn outer_field() {
     assert_eq!(refused(&bytes("00")), (2, 0));
     assert_eq!(refused(&a1()[..77]), (2, 0));
     assert_eq!(refused(&bytes("51 0100")), (3, 0));
-    assert_eq!(refused(&bytes("55 0100")), (3, 0));
-    for tag in ["53", "54"] {
+    assert_eq!(refused(&bytes("56 0100")), (3, 0));
+    for tag in ["53", "54", "55"] {
         assert_eq!(refused(&bytes(&format!("{tag} 00"))), (2, 0));
         assert_eq!(refused(&bytes(&format!("{tag} 0100"))), (2, 0));
     }
@@ -54,9 +55,10 @@ fn outer_field_of_a_second_record() {
         (refusal.rule as u8, refusal.offset)
     };
     assert_eq!(refused("54"), (2, 78));
+    assert_eq!(refused("55"), (2, 78));
     assert_eq!(refused("51 0000"), (3, 78));
-    assert_eq!(refused("55 0000"), (3, 78));
-    for tag in ["52", "53", "54"] {
+    assert_eq!(refused("56 0000"), (3, 78));
+    for tag in ["52", "53", "54", "55"] {
         assert_eq!(refused(&format!("{tag} 0001")), (2, 78));
         assert_eq!(refused(&format!("{tag} 0000")), (6, 81));
         assert_eq!(refused(&format!("{tag} 0001 01")), (5, 81));
@@ -140,7 +142,7 @@ fn ending(more: &[&str]) -> Vec<u8> {
 fn another_outer_tag() {
     let good = ending(&["10 0001 0D"]);
     assert_eq!(forest::list(&good, &[], &mut [0; 86]), Ok(86));
-    for tag in (0x00..=0xFF).filter(|tag| !(0x52..=0x54).contains(tag)) {
+    for tag in (0x00..=0xFF).filter(|tag| !(0x52..=0x55).contains(tag)) {
         let mut record = good.clone();
         record[0] = tag;
         assert_eq!(refused(&record), (3, 0));
@@ -203,7 +205,7 @@ fn a_fault_in_a_mixed_file() {
     };
     // 82 + 78 + 82 bytes.
     assert_eq!(refused(&mild[..81]), (2, 242));
-    assert_eq!(refused(&outer(0x55, &A1_FIELDS)), (3, 242));
+    assert_eq!(refused(&outer(0x56, &A1_FIELDS)), (3, 242));
     assert_eq!(refused(&ending(&["10 0001"])), (5, 242 + 78));
     assert_eq!(refused(&ending(&[])), (6, 242 + 78));
     assert_eq!(refused(&ending(&["10 0001 0D 00"])), (6, 242 + 82));

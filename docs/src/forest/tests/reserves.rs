@@ -3,24 +3,20 @@
 
 mod common;
 
-use common::{a1, a1_as, a1_with, bytes, outer, A1_FIELDS};
+use common::{
+    a1, a1_as, a1_with, bytes, number_and_offset, outer, year_of_a1, A1_FIELDS, FOUR, FOUR_WIDE,
+    MILD, NO_STAND, PINE,
+};
 use forest::{
     aluminium, check, convert, judge, level, list, loads, pages, read_record, report, rewrite,
-    sample, terms, write_record, Entry, Found, Kind, Loads, Month, Reading, Refusal, Site, Verdict,
+    sample, terms, write_record, Entry, Found, Kind, Loads, Site, Verdict,
 };
 use std::io::Write;
 use std::process::{Command, Stdio};
 
-const NO_STAND: &str = "07 0000";
-
-/// Field 10 at −5, 8 and 20 °C.
+/// Field 10 at −5 and 20 °C.
 const COLD: &str = "10 0001 00";
-const MILD: &str = "10 0001 0D";
 const WARM: &str = "10 0001 19";
-
-/// A field 07 of four entries with one byte for a species, and with two.
-const FOUR: &str = "07 0010  00 19 0000  01 19 0001  05 19 0100  08 19 4E20";
-const FOUR_WIDE: &str = "07 0014  0000 19 0000  0001 19 0001  0005 19 0100  0008 19 4E20";
 
 const TAGS: [u8; 3] = [0x52, 0x53, 0x54];
 
@@ -50,17 +46,10 @@ fn all_species() -> Vec<u8> {
         .collect()
 }
 
-fn number_and_offset<T: std::fmt::Debug>(refused: Result<T, Refusal>) -> (u8, usize) {
-    let Refusal { rule, offset } = refused.unwrap_err();
-    (rule as u8, offset)
-}
-
-/// The refusal of a record by every call that takes one; each leaves the buffer as it was.
+/// The refusal of a record by every call that takes one, the conversion too.
 fn refused(record: &[u8]) -> (u8, usize) {
+    let expected = common::refused(record, &[]);
     let mut out = [0xEE; 200];
-    let expected = number_and_offset(list(record, &[], &mut out));
-    assert_eq!(number_and_offset(pages(record, &[], &mut out)), expected);
-    assert_eq!(number_and_offset(rewrite(record, &[], &mut out)), expected);
     for target in TAGS {
         let answer = convert(record, &[], target, &mut out);
         assert_eq!(number_and_offset(answer), expected);
@@ -487,7 +476,7 @@ fn a_reserve_moves_from_every_kind_to_every_kind() {
     let as_54 = [
         a1_as(0x54, &[FOUR_WIDE, MILD]),
         kinds[2].clone(),
-        a1_as(0x54, &["07 0005 0000 64 07D0", MILD]),
+        a1_as(0x54, &[PINE, MILD]),
     ]
     .concat();
     assert_eq!(moved(&as_52, 0x54), as_54);
@@ -514,16 +503,6 @@ fn seventeen_at_a_reserve_is_that_of_field_10() {
 
 #[test]
 fn a_year_of_the_sampler_at_a_reserve() {
-    let month = |rain, sulphate, nitrate| Month {
-        rain,
-        sulphate: Reading::Measured(sulphate),
-        nitrate: Reading::Measured(nitrate),
-        ammonium: Reading::Measured(0.0),
-    };
-    // 800,000 µg of sulphur and 980,000 of nitrogen: the pair 500, 700.
-    let mut months = [month(0, 0.0, 0.0); 12];
-    months[3] = month(800, 1.0, 1.0);
-    months[8] = month(180, 0.0, 1.0);
     for record in reserves() {
         let own = site_of(&record);
         let site = Site {
@@ -532,7 +511,7 @@ fn a_year_of_the_sampler_at_a_reserve() {
             ..own
         };
         assert_eq!(judge(&site, &[]).unwrap().verdict, Verdict::Within);
-        let sampled = sample(&site, &[], &months).unwrap();
+        let sampled = sample(&site, &[], &year_of_a1()).unwrap();
         assert_eq!((sampled.sulphur, sampled.nitrogen), (500, 700));
         assert_eq!(sampled.judgement, judge(&own, &[]).unwrap());
         let over = Verdict::Over {

@@ -2,10 +2,12 @@
 
 mod common;
 
-use common::{a1, a1_as, bytes, outer, A1_FIELDS};
+use common::{
+    a1, a1_as, bytes, number_and_offset, outer, refused, site_refused, year_of_a1, A1_FIELDS, MILD,
+};
 use forest::{
     check, check_list, judge, level, list, loads, pages, read_record, report, rewrite, sample,
-    terms, write_record, Entry, Found, Kind, Loads, Month, Reading, Refusal, Site, Verdict,
+    terms, write_record, Entry, Found, Kind, Loads, Refusal, Site, Verdict,
 };
 
 /// An entry of a list: the number, then Ca, Mg, K and N.
@@ -32,62 +34,12 @@ fn of_numbers(numbers: impl IntoIterator<Item = u16>) -> Vec<u8> {
 
 /// A1 in kind 54 at 8 °C, with another field 07.
 fn a1_with_stand(field: &str) -> Vec<u8> {
-    a1_as(0x54, &[field, "10 0001 0D"])
+    a1_as(0x54, &[field, MILD])
 }
 
 /// A1 in kind 54, its stand of one species.
 fn a1_of(species: u16) -> Vec<u8> {
     a1_with_stand(&format!("07 0005 {species:04X}6407D0"))
-}
-
-fn number_and_offset<T: std::fmt::Debug>(refused: Result<T, Refusal>) -> (u8, usize) {
-    let Refusal { rule, offset } = refused.unwrap_err();
-    (rule as u8, offset)
-}
-
-/// The refusal of a record with a list, by every call that takes a file or a record; each leaves the buffer as it was. The
-/// report is its line.
-fn refused(record: &[u8], lent: &[u8]) -> (u8, usize) {
-    let mut out = [0xEE; 4096];
-    let expected = number_and_offset(list(record, lent, &mut out));
-    assert_eq!(number_and_offset(pages(record, lent, &mut out)), expected);
-    assert_eq!(number_and_offset(rewrite(record, lent, &mut out)), expected);
-    assert_eq!(number_and_offset(read_record(record, lent)), expected);
-    assert_eq!(out, [0xEE; 4096]);
-    let line = format!("refused {} at {}\n", expected.0, expected.1);
-    assert_eq!(report(record, lent, &mut out), Ok(line.len()));
-    assert_eq!(out[..line.len()], *line.as_bytes());
-    expected
-}
-
-const DRY: Month = Month {
-    rain: 0,
-    sulphate: Reading::Measured(0.0),
-    nitrate: Reading::Measured(0.0),
-    ammonium: Reading::Measured(0.0),
-};
-
-/// The refusal of a site value with a list, by every call that takes one.
-fn site_refused(site: &Site, lent: &[u8]) -> (u8, usize) {
-    let mut out = [0xEE; 104];
-    let expected = number_and_offset(check(site, lent));
-    assert_eq!(number_and_offset(loads(site, lent)), expected);
-    assert_eq!(number_and_offset(level(site, lent)), expected);
-    assert_eq!(number_and_offset(judge(site, lent)), expected);
-    let missing = Month {
-        sulphate: Reading::Missing,
-        ..DRY
-    };
-    assert_eq!(
-        number_and_offset(sample(site, lent, &[missing; 12])),
-        expected
-    );
-    assert_eq!(
-        number_and_offset(write_record(site, lent, &mut out)),
-        expected
-    );
-    assert_eq!(out, [0xEE; 104]);
-    expected
 }
 
 #[test]
@@ -652,7 +604,7 @@ fn site_values_of_the_c_interface() {
     assert_eq!(with(&[255, 0, 1, 3, 255]), Ok(expected));
     assert_eq!(with(&[13]).unwrap().kind, Kind::Tag53);
     assert_eq!(with(&[13]).unwrap().stand[0].species, 1);
-    for more in (2..5).chain(6..60) {
+    for more in (2..5).chain([6]).chain(8..60) {
         assert_eq!(number_and_offset(with(&vec![0; more])), (7, 0));
     }
 }
@@ -661,25 +613,12 @@ fn site_values_of_the_c_interface() {
 fn the_sampler_takes_kind_54() {
     let lent = three();
     let own = read_record(&a1_of(513), &lent).unwrap();
-    // 800,000 µg of sulphur and 980,000 of nitrogen: the pair 500, 700.
-    let mut months = [DRY; 12];
-    months[3] = Month {
-        rain: 800,
-        sulphate: Reading::Measured(1.0),
-        nitrate: Reading::Measured(1.0),
-        ..DRY
-    };
-    months[8] = Month {
-        rain: 180,
-        nitrate: Reading::Measured(1.0),
-        ..DRY
-    };
     let site = Site {
         sulphur: 1,
         nitrogen: 2,
         ..own
     };
-    let sampled = sample(&site, &lent, &months).unwrap();
+    let sampled = sample(&site, &lent, &year_of_a1()).unwrap();
     assert_eq!((sampled.sulphur, sampled.nitrogen), (500, 700));
     assert_eq!(sampled.judgement, judge(&own, &lent).unwrap());
 }

@@ -259,7 +259,7 @@ fn site_values_of_the_c_interface() {
     let bad = Site::from_bytes(&[&value[..], &[26]].concat()).unwrap();
     assert_eq!((bad.kind, bad.temperature), (Kind::Tag53, 26));
     assert_eq!(judge(&bad, &[]).unwrap_err().to_string(), "refused 8 at 0");
-    for length in (0..200).filter(|length| ![50, 51, 55].contains(length)) {
+    for length in (0..200).filter(|length| ![50, 51, 55, 57].contains(length)) {
         let mut other = value.clone();
         other.resize(length, 13);
         let refusal = Site::from_bytes(&other).unwrap_err();

@@ -1,14 +1,16 @@
 //! One answer held against the other.
 
+use crate::balances::{any_pair_closes, balances_close};
+use crate::bicarbonate::near_neutral_in;
 use crate::kinds::{fields_in, By};
-use crate::reserves::{balances_close, reserve_in};
+use crate::reserves::reserve_in;
 use crate::species::With;
 use crate::tally::{Source, Tally, PAGE};
 use compare::interface::{
     Call, CHECK, CONVERT, JUDGE, LEVEL, LIST, LOADS, PAGES, REPORT, REWRITE, SAMPLE,
 };
 use compare::random::Random;
-use compare::sites::KINDS;
+use compare::sites::TARGETS;
 use compare::{lists, sites};
 use forest::{Kind, Site};
 use std::fmt::LowerHex;
@@ -21,8 +23,11 @@ use std::time::Duration;
 const ROOM: usize = 64_000;
 /// The bytes of the shortest record, a reserve of kind 52 with a name of one byte.
 const SHORTEST: usize = 73;
-/// One in so many reserves has its balances tried.
-const BALANCED: usize = 32;
+/// One in so many reserves, and sites of kind 55, has its balances tried.
+const BALANCED: usize = 8;
+
+/// 21 of a site value.
+const NEGATIVE: u64 = 21 << 32;
 
 pub struct Comparison {
     pub passed: u64,
@@ -55,6 +60,7 @@ impl Comparison {
         for length in lengths(random, full) {
             let result = self.call(random, &LIST, [file, list], length);
             self.tally.answer(Source::List, file, list, result);
+            self.tally.bicarbonate.room(Source::List, length, result);
             // The header alone is longer.
             if length < 51 {
                 let with_all = || (LIST.reference)([file, &self.all], &mut []);
@@ -72,6 +78,7 @@ impl Comparison {
         for length in lengths(random, full).into_iter().chain(one_page) {
             let result = self.call(random, &PAGES, [file, list], length);
             self.tally.pages(file, list, records, length, result);
+            self.tally.bicarbonate.room(Source::Pages, length, result);
             if result == full && full >> 32 == 0 {
                 self.tally.page_lines(file, &room[..full as usize]);
             }
@@ -86,7 +93,7 @@ impl Comparison {
                 self.tally.answer(Source::Report, file, list, result);
             }
         }
-        for target in KINDS {
+        for target in TARGETS {
             self.convert(random, file, list, &listing, target);
         }
         self.other_target(random, file, list);
@@ -117,7 +124,7 @@ impl Comparison {
             let result = self.call(random, &CONVERT, inputs, length);
             self.tally.answer(source, file, list, result);
             let converted = &mut self.tally.converted;
-            converted.answer(file, target, length, result, full);
+            converted.answer(file, list, target, length, result, full);
             if length < SHORTEST {
                 let with_all = || in_room(&self.all, 0);
                 self.tally.species.short(With::Target, result, with_all);
@@ -155,20 +162,20 @@ impl Comparison {
     fn other_target(&mut self, random: &mut Random, file: &[u8], list: &[u8]) {
         let any = random.byte();
         let target = random.pick(&[0x51, 0x55, 0, 52, 53, 54, 0x4D, 0xFF, any]);
-        if KINDS.iter().any(|&kind| kind as u8 == target) {
+        if TARGETS.iter().any(|&kind| kind as u8 == target) {
             return;
         }
         let length = random.pick(&[0, 100, 2 * file.len()]);
         self.call(random, &CONVERT, [file, list, &[target]], length);
-        let another = random.pick(&KINDS) as u8;
+        let another = random.pick(&TARGETS) as u8;
         let behind = (CONVERT.reference)([file, list, &[another]], &mut vec![0; length]);
-        self.tally.converted.other(target, behind);
+        self.tally.converted.other(file, target, behind);
     }
 
     /// A single record with a list through `forest_rewrite`.
     pub fn record(&mut self, random: &mut Random, record: &[u8], list: &[u8]) {
-        let full = (REWRITE.reference)([record, list], &mut [0; 104]);
-        let with_all = || (REWRITE.reference)([record, &self.all], &mut [0; 104]);
+        let full = (REWRITE.reference)([record, list], &mut [0; 109]);
+        let with_all = || (REWRITE.reference)([record, &self.all], &mut [0; 109]);
         self.tally
             .species
             .lent(With::Record, record, list, full, with_all);
@@ -177,6 +184,7 @@ impl Comparison {
         for length in lengths(random, full) {
             let result = self.call(random, &REWRITE, [record, list], length);
             self.tally.answer(Source::Rewrite, record, list, result);
+            self.tally.bicarbonate.room(Source::Rewrite, length, result);
             if length < SHORTEST {
                 let with_all = || (REWRITE.reference)([record, &self.all], &mut []);
                 self.tally.species.short(With::Record, result, with_all);
@@ -188,14 +196,19 @@ impl Comparison {
     pub fn site(&mut self, random: &mut Random, value: &[u8], list: &[u8]) {
         let result = self.call(random, &CHECK, [value, list], 0);
         self.tally.value(Source::Check, value, list, result);
+        if let (0 | NEGATIVE, Some(site)) = (result, near_neutral_in(value)) {
+            self.pairs(random, &site, list, result == 0);
+        }
 
         let length = random.pick(&[4, 4, 4, 5, 8, 3, 1, 0]);
         let result = self.call(random, &LOADS, [value, list], length);
         self.tally.value(Source::Loads, value, list, result);
+        self.tally.bicarbonate.room(Source::Loads, length, result);
 
         let length = random.pick(&[2, 2, 2, 3, 8, 1, 1, 0]);
         let result = self.call(random, &LEVEL, [value, list], length);
         self.tally.value(Source::Level, value, list, result);
+        self.tally.bicarbonate.room(Source::Level, length, result);
         let mut numbers = [0; 2];
         if (LEVEL.reference)([value, list], &mut numbers) == 2 {
             self.tally.compared(value, numbers[1] as usize);
@@ -204,6 +217,10 @@ impl Comparison {
         let length = random.pick(&[8, 8, 8, 9, 12, 7, 4, 0]);
         let (result, judged) = self.outcome(random, &JUDGE, [value, list], length);
         self.tally.value(Source::Judge, value, list, result);
+        self.tally.bicarbonate.room(Source::Judge, length, result);
+        if let (8, Some(site)) = (result, near_neutral_in(value)) {
+            self.near_neutral(random, &site, value, list, &judged[..8]);
+        }
         if let (8, Some(reserve)) = (result, reserve_in(value)) {
             self.reserve(random, &reserve, list, &judged[..8]);
         }
@@ -241,11 +258,44 @@ impl Comparison {
         self.tally.reserves.without_growth(site);
     }
 
+    /// A site of kind 55 that passes, or is refused by 21: it passes exactly where some pair closes.
+    fn pairs(&mut self, random: &mut Random, site: &Site, list: &[u8], passes: bool) {
+        if random.one_in(BALANCED) {
+            let closes = any_pair_closes(site, list);
+            let [passes, closes] = [passes, closes].map(u64::from);
+            self.same("a site of kind 55, and its pairs", &[passes], &[closes]);
+            self.tally.bicarbonate.paired(closes == 1);
+        }
+    }
+
+    /// What the library made of a site of kind 55: the mark is that of the balances, and without carbon dioxide the numbers are
+    /// those of kind 54.
+    fn near_neutral(
+        &mut self,
+        random: &mut Random,
+        site: &Site,
+        value: &[u8],
+        list: &[u8],
+        judged: &[u64],
+    ) {
+        if random.one_in(BALANCED) {
+            let closes = balances_close(site, list);
+            self.same("the mark of kind 55", &judged[7..], &[u64::from(!closes)]);
+            self.tally.bicarbonate.balanced(site, list, closes);
+        }
+        if site.carbon_dioxide == 0 {
+            let (_, numbers) = self.outcome(random, &JUDGE, [&value[..55], list], 8);
+            self.same("kind 55 without carbon dioxide", judged, &numbers);
+            self.tally.bicarbonate.as_54();
+        }
+    }
+
     /// A site value with a list and the months of its sampler through `forest_sample`.
     pub fn sample(&mut self, random: &mut Random, value: &[u8], list: &[u8], months: &[u8]) {
         let length = random.pick(&[10, 10, 10, 11, 14, 9, 8, 2, 0]);
         let result = self.call(random, &SAMPLE, [value, list, months], length);
         self.tally.value(Source::Sample, value, list, result);
+        self.tally.bicarbonate.room(Source::Sample, length, result);
         if length < 10 {
             let with_all = || (SAMPLE.reference)([value, &self.all, months], &mut []);
             self.tally.species.short(With::Months, result, with_all);

@@ -1,6 +1,8 @@
 //! How often records of each kind were moved to each, and each refusal by the fault that stands behind it.
 
-use crate::kinds::{entries_of, fields_in, files_row, stand_in, FILES, KIND_52, KIND_53, KIND_54};
+use crate::kinds::{
+    entries_of, fields_in, files_row, stand_in, FILES, KIND_52, KIND_53, KIND_54, KIND_55, MOVABLE,
+};
 use forest::EIGHT_DEGREES;
 
 /// By target: 52, 53 and 54.
@@ -59,16 +61,35 @@ const REFUSED: [(&str, ByTarget<bool>); 23] = [
     ("16, and 17 there too", DOWN),
 ];
 
+/// 3 by a record of kind 55, at its place in the file, by what stands ahead of it and by what is at fault in it.
+const NEAR_NEUTRAL: [(&str, ByTarget<bool>); 9] = [
+    ("3: 55, the first", ALL),
+    ("3: 55, a later record", ALL),
+    ("3: 55, the 500th record", ALL),
+    ("3: 55, no fault in it", ALL),
+    ("3: 55, ahead of 17", DOWN),
+    ("3: 55, ahead of 21", ALL),
+    ("3: 55, ahead of 2", ALL),
+    ("3: 55, a fault in it", ALL),
+    ("3: 55, ahead of 11", ALL),
+];
+
 /// 3 by a target other than the three, and what stands behind it by rule, 0 being no other fault.
-const OTHERS: [&str; 3] = ["3: target 51", "3: target 55", "3: another target"];
+const OTHERS: [&str; 4] = [
+    "3: target 51",
+    "3: target 55",
+    "3: another target",
+    "3: target 55, file too",
+];
 const BEHIND_OTHERS: [usize; 15] = [0, 1, 2, 3, 4, 5, 6, 7, 8, 9, 10, 11, 15, 16, 17];
 
 #[derive(Default)]
 pub struct Converted {
     moved: [ByTarget; MOVED.len()],
     /// Files moved, of several records.
-    files: [ByTarget; FILES.len()],
+    files: [ByTarget; MOVABLE],
     refused: [ByTarget; REFUSED.len()],
+    near_neutral: [ByTarget; NEAR_NEUTRAL.len()],
     others: [u64; OTHERS.len()],
     behind_others: [u64; 18],
 }
@@ -115,8 +136,16 @@ impl Converted {
         self.add(name, target, 1);
     }
 
-    /// The result in a buffer of so many bytes, and the one in a buffer with room.
-    pub fn answer(&mut self, file: &[u8], target: u8, room: usize, result: u64, full: u64) {
+    /// The result for a file with its list in a buffer of so many bytes, and the one in a buffer with room.
+    pub fn answer(
+        &mut self,
+        file: &[u8],
+        list: &[u8],
+        target: u8,
+        room: usize,
+        result: u64,
+        full: u64,
+    ) {
         let offset = result as u32 as usize;
         match result >> 32 {
             0 if room == full as usize => self.add("in the exact room", target, 1),
@@ -128,9 +157,37 @@ impl Converted {
                 let is_short = room < moved_length(file, target);
                 self.add("17 ahead of 11", target, is_short.into());
             }
-            rule @ (2..=10 | 16) => self.own_fault(file, target, rule, offset),
+            rule @ (2..=10 | 16) => {
+                self.own_fault(file, target, rule, offset);
+                if rule == 3 && file[offset] == KIND_55 {
+                    self.near_neutral(file, list, target, room, offset);
+                }
+            }
             _ => {}
         }
+    }
+
+    /// 3 for the record of kind 55 at an offset.
+    fn near_neutral(&mut self, file: &[u8], list: &[u8], target: u8, room: usize, offset: usize) {
+        let mut add = |name, holds: bool| self.add(name, target, holds.into());
+        let before = fields_in(file, 0, offset).count();
+        add("3: 55, the first", before == 0);
+        add("3: 55, a later record", before > 0);
+        add("3: 55, the 500th record", before == 499);
+        let stuck = !misfits(file, target, offset).is_empty();
+        add("3: 55, ahead of 17", stuck);
+        // What the record itself is refused by, where there is no conversion.
+        let length = usize::from(u16::from_be_bytes([file[offset + 1], file[offset + 2]]));
+        let single = file[offset..].get(..3 + length);
+        let fault = single.map(|record| forest::read_record(record, list));
+        let rule = fault.map_or(2, |read| {
+            read.map_or_else(|refusal| refusal.rule as u8, |_| 0)
+        });
+        add("3: 55, no fault in it", rule == 0 && !stuck);
+        add("3: 55, ahead of 21", rule == 21);
+        add("3: 55, ahead of 2", rule == 2);
+        add("3: 55, a fault in it", (5..=10).contains(&rule));
+        add("3: 55, ahead of 11", room == 0);
     }
 
     /// 17 for the field at an offset.
@@ -172,20 +229,22 @@ impl Converted {
         }
     }
 
-    /// A target other than the three, with the result that another target has in the same buffer.
-    pub fn other(&mut self, target: u8, behind: u64) {
+    /// A target other than the three with a file, and the result that another target has in the same buffer.
+    pub fn other(&mut self, file: &[u8], target: u8, behind: u64) {
         let row = match target {
             0x51 => 0,
-            0x55 => 1,
+            KIND_55 => 1,
             _ => 2,
         };
         self.others[row] += 1;
+        self.others[3] += u64::from(target == KIND_55 && file.first() == Some(&KIND_55));
         self.behind_others[(behind >> 32) as usize] += 1;
     }
 
     fn add(&mut self, name: &str, target: u8, count: u64) {
-        let names = MOVED.iter().chain(&REFUSED);
+        let names = MOVED.iter().chain(&REFUSED).chain(&NEAR_NEUTRAL);
         let counts = self.moved.iter_mut().chain(&mut self.refused);
+        let counts = counts.chain(&mut self.near_neutral);
         let row = names.zip(counts).find(|((row, _), _)| *row == name);
         row.expect("a row").1[column(target)] += count;
     }
@@ -195,9 +254,11 @@ impl Converted {
         let moved = MOVED.into_iter().zip(self.moved);
         let files = FILES.map(|name| (name, ALL)).into_iter().zip(self.files);
         let refused = REFUSED.into_iter().zip(self.refused);
+        let of_55 = NEAR_NEUTRAL.into_iter().zip(self.near_neutral);
         moved
             .chain(files)
             .chain(refused)
+            .chain(of_55)
             .map(|((name, due), counts)| {
                 let column = |column: usize| (counts[column], due[column]);
                 (name.to_string(), [0, 1, 2].map(column))

@@ -29,6 +29,15 @@ B2 735 205 1021 249 0 0 0 within
 A1 735 205 1021 249 2 221 451 over
 ";
 
+/// A1 in kind 55 at 8 °C: with P 5000, where 25 of bicarbonate leach, before B2 in kind 52; with the ceiling of 50 and P 1250, where
+/// 100 leach beside 10 of hydrogen; and with P 3175, where 254 leach and nothing is left.
+const LISTING_OF_BICARBONATE: &str = "id maxS minN maxN nutN region acidEx nutEx verdict
+A1 710 205 993 249 2 248 451 over
+B2 735 205 1021 249 0 0 0 within
+A1 154 205 376 249 2 831 451 over
+A1 0 205 205 249 1 995 451 over
+";
+
 /// A1 with four species, and as a reserve: of kind 52, of kind 53 at 5 °C below zero, where W is 67 and M 720, and of kind 54.
 const LISTING_OF_RESERVES: &str = "id maxS minN maxN nutN region acidEx nutEx verdict
 A1 149 557 722 601 3 494 99 over
@@ -68,6 +77,16 @@ fn with_stand(outer: &str, stand: &str, last: &str) -> Vec<u8> {
     let site = SITE.replace("070004 006407D0", stand);
     bytes(&format!(
         "{outer} 010002 4131 {site} 0F0004 01F402BC {last}"
+    ))
+}
+
+/// A1 in kind 55 at 8 °C, with the two bytes of its ceiling and of P.
+fn record_55(ceiling: &str, p: &str) -> Vec<u8> {
+    let site = SITE
+        .replace("070004 00", "070005 0000")
+        .replace("0D0002 03E8", &format!("0D0002 {ceiling}"));
+    bytes(&format!(
+        "550055 010002 4131 {site} 0F0004 01F402BC 100001 0D 110002 {p}"
     ))
 }
 
@@ -129,6 +148,26 @@ pub fn compare(comparison: &mut Comparison, path: &str) {
         "species 256",
         drip(path, &lacking, lacking.len()),
         "refused 16 at 113\n",
+    );
+    let near_neutral = [
+        record_55("03E8", "1388"),
+        b2.clone(),
+        record_55("0032", "04E2"),
+        record_55("0032", "0C67"),
+    ]
+    .concat();
+    assert_eq!(near_neutral.len(), 88 + 78 + 88 + 88);
+    expect(
+        "kind 55, byte by byte",
+        drip(path, &near_neutral, 1),
+        LISTING_OF_BICARBONATE,
+    );
+    // With P 3176 a load of −1 would be left. What is behind it is not looked at.
+    let negative = [&near_neutral[..], &record_55("0032", "0C68"), &[0x55]].concat();
+    expect(
+        "a negative CLmaxS",
+        drip(path, &negative, negative.len()),
+        "refused 21 at 425\n",
     );
     let too_hot = [&cold[..], &hot].concat();
     expect(

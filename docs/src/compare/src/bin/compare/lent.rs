@@ -85,12 +85,13 @@ impl Lists {
         }
     }
 
-    pub fn rows(&self) -> Vec<(String, ByInput)> {
+    /// By what is lent with a list, all of them due.
+    pub fn rows(&self) -> Vec<(String, ByInput<(u64, bool)>)> {
         let names = LENGTHS.iter().chain(&FAULTS).chain(&RESTS);
         let counts = self.accepted.iter().chain(&self.faults).chain(&self.rests);
         names
             .map(|name| name.to_string())
-            .zip(counts.copied())
+            .zip(counts.map(|counts| counts.map(|count| (count, true))))
             .collect()
     }
 }

@@ -1,7 +1,10 @@
 //! Compares the static library and the program with the independent implementation, byte for byte.
 
+mod balances;
+mod bicarbonate;
 mod comparison;
 mod converted;
+mod due;
 mod edges;
 mod kinds;
 mod lent;
@@ -54,7 +57,7 @@ fn main() -> ExitCode {
     let mut random = Random::new(options.seed);
     let mut comparison = Comparison::new(&mut random);
 
-    let (sites, records, files) = (scaled(1_500_000.0), scaled(600_000.0), scaled(120_000.0));
+    let (sites, records, files) = (scaled(1_600_000.0), scaled(650_000.0), scaled(140_000.0));
     let years = scaled(600_000.0);
     for _ in 0..sites {
         let (value, list) = lists::with(&mut random, sites::value);
@@ -68,10 +71,16 @@ fn main() -> ExitCode {
         let (file, list) = lists::with(&mut random, files::file);
         comparison.file(&mut random, &file, &list);
     }
-    // Files of the table's species, and of a list's: with the list, with one that lacks all, and with a bad one.
+    // Files of the table's species, and of a list's: with the list, with one that lacks all or the last, and with a bad one.
     let all = lists::all(&mut random);
-    let bad = &all[..all.len() - 1];
-    for (held, lent) in [(&[][..], &[][..]), (&all, &all), (&all, &[]), (&all, bad)] {
+    let (bad, lacking) = (&all[..all.len() - 1], &all[..all.len() - lists::ENTRY]);
+    for (held, lent) in [
+        (&[][..], &[][..]),
+        (&all, &all),
+        (&all, &[]),
+        (&all, lacking),
+        (&all, bad),
+    ] {
         for file in files::border_files(&mut random, held) {
             comparison.file(&mut random, &file, lent);
         }

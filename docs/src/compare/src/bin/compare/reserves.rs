@@ -1,28 +1,23 @@
 //! How often reserves, the sites whose stand has no entries, occurred by each call, beside stands, and in refusals at the fields
 //! around their field 07; and what decides their mark.
 
+use crate::due::{but, due, rows, BySource, ALL, INTO_BUFFERS, NOT_MOVED, VALUES};
 use crate::kinds::{end_of, entries_of, fault, fields_in, is_mended, By, KIND_52};
-use crate::tally::{Source, SOURCES};
+use crate::tally::Source;
 use compare::lists::ENTRY;
-use forest::{aluminium, hydrogen, judge, terms, Site, Verdict};
-use Source::{Check, Judge, Level, List, Loads, Pages, Program, Report, Sample, To52, To53, To54};
+use forest::{judge, terms, Site, Verdict};
+use Source::{Check, List, Pages, Program, Report, To52, To53, To54};
 
-type BySource<T = u64> = [T; SOURCES.len()];
-
-/// The sources for which a row is due.
-const ALL: BySource<bool> = [true; SOURCES.len()];
 /// The program lends an empty list.
 const LENT: BySource<bool> = but(&[Program]);
-/// The check takes no buffer, that of the program is long enough, and a report's may be too short for the line of a refusal.
-const INTO_BUFFERS: BySource<bool> = but(&[Report, Check, Program]);
 const FILES: BySource<bool> = due(&[List, Pages, Report, To52, To53, To54, Program]);
-const VALUES: BySource<bool> = due(&[Check, Loads, Level, Judge, Sample]);
 
 /// Accepted records and site values, then accepted files of several records, and site values behind whose count 0 a stand lies.
-const ANSWERS: [(&str, BySource<bool>); 12] = [
+const ANSWERS: [(&str, BySource<bool>); 13] = [
     ("reserve of kind 52", ALL),
     ("reserve of kind 53", ALL),
     ("reserve of kind 54", ALL),
+    ("reserve of kind 55", NOT_MOVED),
     ("reserve, empty list", ALL),
     ("reserve, list of 768", LENT),
     ("11 at a reserve", INTO_BUFFERS),
@@ -77,9 +72,9 @@ pub struct Reserves {
     judged: [u64; JUDGED.len()],
     /// By kind: marks held against balances that close, against balances that do not, and numbers against those of a stand that
     /// does not grow.
-    closing: [u64; 3],
-    open: [u64; 3],
-    without_growth: [u64; 3],
+    closing: [u64; 4],
+    open: [u64; 4],
+    without_growth: [u64; 4],
 }
 
 impl Reserves {
@@ -88,7 +83,7 @@ impl Reserves {
         match rule {
             0 => self.accepted_file(source, file, list),
             11 if INTO_BUFFERS[source as usize] => {
-                let any = reserves_in(file).any(|is_reserve| is_reserve);
+                let any = fields_in(file, 0, file.len()).any(|(_, record)| entries_of(record) == 0);
                 self.answer("11 at a reserve", source, any);
             }
             15 => {
@@ -209,12 +204,7 @@ impl Reserves {
 
     /// By source, each with whether it is due.
     pub fn answer_rows(&self, with_program: bool) -> Vec<(String, BySource<(u64, bool)>)> {
-        let row = |((name, mut due), counts): ((&str, BySource<bool>), BySource)| {
-            due[Program as usize] &= with_program;
-            let column = |column: usize| (counts[column], due[column]);
-            (name.to_string(), std::array::from_fn(column))
-        };
-        ANSWERS.into_iter().zip(self.answers).map(row).collect()
+        rows(&ANSWERS, &self.answers, with_program)
     }
 
     /// Refusals of records, by rewrite, list and convert.
@@ -237,33 +227,16 @@ impl Reserves {
             ("balances do not", self.open),
             ("as without growth", self.without_growth),
         ] {
-            let kinds = [52, 53, 54].map(|kind| format!("{name}, {kind}"));
+            let kinds = [52, 53, 54, 55].map(|kind| format!("{name}, {kind}"));
             rows.extend(kinds.into_iter().zip(counts));
         }
         rows
     }
 }
 
-/// 0 to 2 for the kinds 52 to 54.
+/// 0 to 3 for the kinds 52 to 55.
 fn kind_of(site: &Site) -> usize {
     usize::from(site.kind as u8 - KIND_52)
-}
-
-const fn due(sources: &[Source]) -> BySource<bool> {
-    set(sources, [false; SOURCES.len()], true)
-}
-
-const fn but(sources: &[Source]) -> BySource<bool> {
-    set(sources, ALL, false)
-}
-
-const fn set(sources: &[Source], mut due: BySource<bool>, is_due: bool) -> BySource<bool> {
-    let mut index = 0;
-    while index < sources.len() {
-        due[sources[index] as usize] = is_due;
-        index += 1;
-    }
-    due
 }
 
 /// The site value, where it is one of a reserve.
@@ -272,36 +245,11 @@ pub fn reserve_in(value: &[u8]) -> Option<Site> {
     site.filter(|site| site.entries == 0)
 }
 
-/// Which of the records of an accepted file are reserves.
-pub fn reserves_in(file: &[u8]) -> impl Iterator<Item = bool> + '_ {
-    fields_in(file, 0, file.len()).map(|(_, record)| entries_of(record) == 0)
-}
-
 /// A reserve with the stand that lies behind its count, where there is a good one.
 fn lying(site: &Site, list: &[u8]) -> Option<Site> {
     let with = |entries| Site { entries, ..*site };
     let passes = |site: &Site| forest::check(site, list).is_ok();
     (1..=4).map(with).find(passes)
-}
-
-/// Whether all balances of document 01 close at a reserve: u is 0, and every i and every allowed h is tried.
-pub fn balances_close(site: &Site, list: &[u8]) -> bool {
-    let terms = terms(site, list).expect("a judged site");
-    let [s, n, b] = [site.sulphur, site.nitrogen, site.base_deposition].map(i64::from);
-    let limit = 1500 * (b + terms.available) / i64::from(site.critical_ratio);
-    let levels = 0..=i64::from(site.hydrogen_ceiling);
-    let leached: Vec<i64> = levels
-        .filter(|&h| aluminium(site, h) <= limit)
-        .map(|h| hydrogen(site, h) + aluminium(site, h))
-        .collect();
-    let immobilised = 0..=n.min(site.immobilisation.into());
-    immobilised
-        .map(|i| terms.left * (n - i))
-        .filter(|left| *left <= 1000 * terms.leaching)
-        .any(|left| {
-            let closes = |leached: &i64| 1000 * s + left <= 1000 * (b + terms.weathering + leached);
-            leached.iter().any(closes)
-        })
 }
 
 /// The row of a refusal, where it is one at a reserve.

@@ -3,6 +3,7 @@
 use crate::kinds::{fault, stand_in, KIND_54};
 use crate::lent::Lists;
 use compare::lists::ENTRY;
+use compare::sites::KINDS;
 use forest::{terms, Entry, Kind, Site};
 
 /// What is lent with a list: a file to three calls, a record to one, a site value to four, a site value with months to one, and
@@ -36,7 +37,7 @@ const LACKING: [&str; 10] = [
 ];
 
 /// 8 by a species alone.
-const OUTSIDE: [&str; 9] = [
+const OUTSIDE: [&str; 14] = [
     "8: kind 52, 9",
     "8: kind 52, above 9",
     "8: kind 53, 9",
@@ -46,28 +47,35 @@ const OUTSIDE: [&str; 9] = [
     "8: kind 54, 255",
     "8: kind 54, 1024",
     "8: kind 54, above 1024",
+    "8: kind 55, 9",
+    "8: kind 55, 10 to 254",
+    "8: kind 55, 255",
+    "8: kind 55, 1024",
+    "8: kind 55, above 1024",
 ];
+/// Which of them a conversion never reads.
+const OUTSIDE_55: std::ops::Range<usize> = 9..OUTSIDE.len();
 
 /// The rules, by what is lent with the list, that a list at fault must come ahead of, that a species which the list lacks
 /// must come ahead of, and that must come ahead of it in the same stand. 0 is no other fault.
 const BEHIND_15: ByInput<&[u64]> = [
-    &[0, 1, 2, 3, 4, 5, 6, 7, 8, 9, 10],
-    &[0, 1, 2, 3, 4, 5, 6, 7, 8, 9, 10],
-    &[0, 7, 8, 9, 10],
-    &[0, 7, 8, 9, 10, 12, 13, 14],
+    &[0, 1, 2, 3, 4, 5, 6, 7, 8, 9, 10, 21],
+    &[0, 1, 2, 3, 4, 5, 6, 7, 8, 9, 10, 21],
+    &[0, 7, 8, 9, 10, 21],
+    &[0, 7, 8, 9, 10, 12, 13, 14, 21],
     &[0, 1, 2, 3, 4, 5, 6, 7, 8, 9, 10, 17],
 ];
 const BEHIND_16: ByInput<&[u64]> = [
-    &[0, 2, 5, 6, 7, 8],
-    &[0, 4, 5, 6, 7, 8],
-    &[0, 8],
-    &[0, 7, 8, 12, 13, 14],
+    &[0, 2, 5, 6, 7, 8, 21],
+    &[0, 4, 5, 6, 7, 8, 21],
+    &[0, 8, 21],
+    &[0, 7, 8, 12, 13, 14, 21],
     &[0, 2, 5, 6, 7, 8, 17],
 ];
 const AHEAD_OF_16: ByInput<&[u64]> = [&[8, 9, 10]; WITH.len()];
 
-/// Judged stands of kind 54 by their species and contents.
-const JUDGED: [&str; 20] = [
+/// Judged stands of kinds 54 and 55 by their species and contents.
+const JUDGED: [&str; 21] = [
     "species 256",
     "species 1023",
     "low byte 0 to 8",
@@ -88,6 +96,7 @@ const JUDGED: [&str; 20] = [
     "Bu above the table's",
     "Nu 13107",
     "not by its neighbour",
+    "kind 55, of a list",
 ];
 
 #[derive(Default)]
@@ -96,9 +105,9 @@ pub struct Species {
     lacking: [ByInput; LACKING.len()],
     outside: [ByInput; OUTSIDE.len()],
     /// By rule.
-    behind_15: [ByInput; 18],
-    behind_16: [ByInput; 18],
-    ahead_of_16: [ByInput; 18],
+    behind_15: [ByInput; 22],
+    behind_16: [ByInput; 22],
+    ahead_of_16: [ByInput; 22],
     /// 15 and 16 ahead of 11.
     short: [ByInput; 2],
     judged: [u64; JUDGED.len()],
@@ -128,7 +137,7 @@ impl Species {
             8..=10 => {
                 let (kind, stand) = kind_and_stand(with, input, offset);
                 let lacks = |entry: &Entry| is_listed(entry.species) && !has(list, entry.species);
-                if kind == Some(Kind::Tag54) && stand.iter().any(lacks) {
+                if kind.is_some_and(Kind::has_wide_species) && stand.iter().any(lacks) {
                     self.ahead_of_16[rule as usize][column] += 1;
                 }
                 if let (8, Some(kind)) = (rule, kind) {
@@ -145,18 +154,23 @@ impl Species {
             return;
         }
         let is_outside =
-            |species: u16| !(species <= 8 || kind == Kind::Tag54 && is_listed(species));
+            |species: u16| !(species <= 8 || kind.has_wide_species() && is_listed(species));
         for entry in stand.iter().filter(|entry| is_outside(entry.species)) {
             let name = match (kind, entry.species) {
                 (Kind::Tag52, 9) => "8: kind 52, 9",
                 (Kind::Tag52, _) => "8: kind 52, above 9",
                 (Kind::Tag53, 9) => "8: kind 53, 9",
                 (Kind::Tag53, _) => "8: kind 53, above 9",
-                (_, 9) => "8: kind 54, 9",
-                (_, 255) => "8: kind 54, 255",
-                (_, 1024) => "8: kind 54, 1024",
-                (_, 1025..) => "8: kind 54, above 1024",
-                _ => "8: kind 54, 10 to 254",
+                (Kind::Tag54, 9) => "8: kind 54, 9",
+                (Kind::Tag54, 255) => "8: kind 54, 255",
+                (Kind::Tag54, 1024) => "8: kind 54, 1024",
+                (Kind::Tag54, 1025..) => "8: kind 54, above 1024",
+                (Kind::Tag54, _) => "8: kind 54, 10 to 254",
+                (Kind::Tag55, 9) => "8: kind 55, 9",
+                (Kind::Tag55, 255) => "8: kind 55, 255",
+                (Kind::Tag55, 1024) => "8: kind 55, 1024",
+                (Kind::Tag55, 1025..) => "8: kind 55, above 1024",
+                (Kind::Tag55, _) => "8: kind 55, 10 to 254",
             };
             self.outside[row(&OUTSIDE, name)][column] += 1;
         }
@@ -171,7 +185,7 @@ impl Species {
 
     /// A site that was judged with a list.
     pub fn judged(&mut self, site: &Site, list: &[u8]) {
-        if site.kind != Kind::Tag54 || site.entries == 0 {
+        if !site.kind.has_wide_species() || site.entries == 0 {
             return;
         }
         let stand = &site.stand[..usize::from(site.entries)];
@@ -226,27 +240,38 @@ impl Species {
         count("Nu 13107", ours.nitrogen_uptake == 13_107);
         let neighbours = entries.iter().zip(entries.iter().cycle().skip(1));
         let other = neighbours.flat_map(|(entry, next)| [&entry[..2], &next[2..]].concat());
+        // With these contents a site of kind 55 may be refused by 21.
         let theirs = terms(site, &other.collect::<Vec<u8>>());
         count(
             "not by its neighbour",
-            theirs.expect("a judged site") != ours,
+            theirs.is_ok_and(|theirs| theirs != ours),
         );
+        let is_55 = site.kind == Kind::Tag55;
+        count("kind 55, of a list", is_55 && !listed.is_empty());
     }
 
-    /// Lists and refusals, by what is lent with the list.
-    pub fn rows(&self) -> Vec<(String, ByInput)> {
-        let named = |names: &[&str], counts: &[ByInput]| -> Vec<(String, ByInput)> {
+    /// Lists and refusals, by what is lent with the list, each with whether it is due.
+    pub fn rows(&self) -> Vec<(String, ByInput<(u64, bool)>)> {
+        let named = |names: &[&str], counts: &[ByInput]| -> Vec<(String, ByInput<(u64, bool)>)> {
             names
                 .iter()
                 .map(|name| name.to_string())
-                .zip(counts.iter().copied())
+                .zip(
+                    counts
+                        .iter()
+                        .map(|counts| counts.map(|count| (count, true))),
+                )
                 .collect()
         };
         let short = ["15 ahead of 11", "16 ahead of 11"];
+        let mut outside = named(&OUTSIDE, &self.outside);
+        for (_, columns) in &mut outside[OUTSIDE_55] {
+            columns[With::Target as usize].1 = false;
+        }
         [
             self.lists.rows(),
             named(&LACKING, &self.lacking),
-            named(&OUTSIDE, &self.outside),
+            outside,
             named(&short, &self.short),
         ]
         .concat()
@@ -281,7 +306,7 @@ impl Species {
         rows
     }
 
-    /// Judged stands of kind 54.
+    /// Judged stands of kinds 54 and 55.
     pub fn judged_rows(&self) -> Vec<(String, u64)> {
         let names = JUDGED.map(str::to_string);
         names.into_iter().zip(self.judged).collect()
@@ -342,7 +367,7 @@ fn kind_and_stand(with: With, input: &[u8], offset: usize) -> (Option<Kind>, Vec
     match with {
         With::File | With::Record | With::Target => match fault(input, offset) {
             (tag, fields, field) if fields.len() == 6 => {
-                (kind_of(tag), stand_in(field, tag == KIND_54))
+                (kind_of(tag), stand_in(field, tag >= KIND_54))
             }
             _ => (None, Vec::new()),
         },
@@ -364,7 +389,5 @@ fn kind_and_stand(with: With, input: &[u8], offset: usize) -> (Option<Kind>, Vec
 }
 
 fn kind_of(tag: u8) -> Option<Kind> {
-    [Kind::Tag52, Kind::Tag53, Kind::Tag54]
-        .into_iter()
-        .find(|&kind| kind as u8 == tag)
+    KINDS.into_iter().find(|&kind| kind as u8 == tag)
 }

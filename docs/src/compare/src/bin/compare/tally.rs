@@ -1,8 +1,9 @@
 //! How often each kind of answer, site and file occurred.
 
+use crate::bicarbonate::Bicarbonate;
 use crate::converted::Converted;
-use crate::kinds::Kinds;
-use crate::reserves::{reserve_in, reserves_in, Reserves};
+use crate::kinds::{entries_of, fields_in, Kinds, KIND_55};
+use crate::reserves::Reserves;
 use crate::sampled::Sampled;
 use crate::species::Species;
 use crate::verdicts::{Verdicts, JUDGE, LINES, PAGE_LINES, SAMPLE};
@@ -34,25 +35,26 @@ impl Source {
             Kind::Tag52 => Source::To52,
             Kind::Tag53 => Source::To53,
             Kind::Tag54 => Source::To54,
+            Kind::Tag55 => unreachable!("a kind that is no target"),
         }
     }
 }
 
 /// The sources, and the rules that each can refuse by.
-pub const SOURCES: [(&str, [RangeInclusive<usize>; 2]); 13] = [
-    ("list", [1..=11, 15..=16]),
-    ("pages", [1..=11, 15..=16]),
-    ("report", [1..=11, 15..=16]),
-    ("rewrite", [1..=11, 15..=16]),
-    ("to 52", [1..=11, 15..=17]),
-    ("to 53", [1..=11, 15..=17]),
-    ("to 54", [1..=11, 15..=16]),
-    ("check", [7..=10, 15..=16]),
-    ("loads", [7..=11, 15..=16]),
-    ("level", [7..=11, 15..=16]),
-    ("judge", [7..=11, 15..=16]),
-    ("sample", [7..=14, 15..=16]),
-    ("program", [1..=10, 16..=16]),
+pub const SOURCES: [(&str, &[RangeInclusive<usize>]); 13] = [
+    ("list", &[1..=11, 15..=16, 21..=21]),
+    ("pages", &[1..=11, 15..=16, 21..=21]),
+    ("report", &[1..=11, 15..=16, 21..=21]),
+    ("rewrite", &[1..=11, 15..=16, 21..=21]),
+    ("to 52", &[1..=11, 15..=17]),
+    ("to 53", &[1..=11, 15..=17]),
+    ("to 54", &[1..=11, 15..=16]),
+    ("check", &[7..=10, 15..=16, 21..=21]),
+    ("loads", &[7..=11, 15..=16, 21..=21]),
+    ("level", &[7..=11, 15..=16, 21..=21]),
+    ("judge", &[7..=11, 15..=16, 21..=21]),
+    ("sample", &[7..=16, 21..=21]),
+    ("program", &[1..=10, 16..=16, 21..=21]),
 ];
 
 const PARENT_MATERIALS: [&str; 5] = ["organic", "acidic", "intermediate", "basic", "calcareous"];
@@ -75,14 +77,20 @@ const COMPARED: [usize; 10] = [1, 6, 7, 8, 9, 10, 11, 12, 13, 14];
 /// The bytes of a full page.
 pub const PAGE: usize = 60 * 65;
 /// The bytes of a full page's records at most: a fault from here on is one after a page.
-const PAGE_RECORDS: usize = 59 * 104;
+const PAGE_RECORDS: usize = 59 * 109;
+
+/// The sites that are counted for themselves too: reserves, and sites of kind 55.
+const SORTS: [&str; 2] = ["reserve", "kind 55"];
+
+/// Which of them a site is.
+type Sorts = [bool; SORTS.len()];
 
 #[derive(Default)]
 pub struct Tally {
     /// By source, then by rule; 0 stands for success.
-    answers: [[u64; 18]; SOURCES.len()],
+    answers: [[u64; 22]; SOURCES.len()],
     verdicts: Verdicts,
-    verdicts_of_reserves: Verdicts,
+    verdicts_of: [Verdicts; SORTS.len()],
     /// Successes for files of so many records, and for files of more than a page.
     page_borders: [u64; PAGE_BORDERS.len()],
     page_breaks: u64,
@@ -98,13 +106,15 @@ pub struct Tally {
     table: [u64; 9],
     hydrogen_bound: u64,
     aluminium_bound: u64,
-    /// By how many levels were compared, at all sites and at reserves.
-    compared: [[u64; 15]; 2],
+    /// By how many levels were compared, at all sites and by sort.
+    compared: [u64; 15],
+    compared_of: [[u64; 15]; SORTS.len()],
     sampled: Sampled,
     pub kinds: Kinds,
     pub species: Species,
     pub converted: Converted,
     pub reserves: Reserves,
+    pub bicarbonate: Bicarbonate,
 }
 
 impl Tally {
@@ -113,6 +123,7 @@ impl Tally {
         let rule = (result >> 32) as usize;
         self.answers[source as usize][rule] += 1;
         self.reserves.file(source, file, list, rule);
+        self.bicarbonate.file(source, file, list, result);
     }
 
     /// The answer of one of the calls from check to sample to a site value with its list.
@@ -120,6 +131,7 @@ impl Tally {
         let rule = (result >> 32) as usize;
         self.answers[source as usize][rule] += 1;
         self.reserves.value(source, value, list, rule);
+        self.bicarbonate.value(source, value, list, result);
         let call = source as usize - Source::Check as usize;
         self.kinds.value(call, value, list, result);
     }
@@ -128,16 +140,17 @@ impl Tally {
     pub fn printed(&mut self, source: Source, file: &[u8], list: &[u8], text: &[u8]) {
         let text = std::str::from_utf8(text).expect("ASCII");
         if let Some(refused) = text.strip_prefix("refused ") {
-            let (rule, _) = refused.split_once(' ').expect("a rule and its offset");
-            let rule: u64 = rule.parse().expect("a number");
-            self.answer(source, file, list, rule << 32);
+            let (rule, offset) = refused.split_once(" at ").expect("a rule and its offset");
+            let [rule, offset] = [rule, offset.trim_end()].map(|word| word.parse::<u64>());
+            let result = (rule.expect("a number") << 32) + offset.expect("a number");
+            self.answer(source, file, list, result);
             return;
         }
         self.answer(source, file, list, 0);
-        for (line, is_reserve) in text.lines().skip(1).zip(reserves_in(file)) {
+        for (line, sorts) in text.lines().skip(1).zip(sorts_in(file)) {
             let words: Vec<&str> = line.split(' ').collect();
             let region = words[5].parse().expect("a region");
-            self.verdict(LINES, is_reserve, region, words[8] == "over");
+            self.verdict(LINES, sorts, region, words[8] == "over");
         }
     }
 
@@ -160,31 +173,34 @@ impl Tally {
     /// The lines of a file's pages, but for the header of each.
     pub fn page_lines(&mut self, file: &[u8], text: &[u8]) {
         let lines = text.chunks(PAGE).flat_map(|page| page.chunks(65).skip(1));
-        for (line, is_reserve) in lines.zip(reserves_in(file)) {
+        for (line, sorts) in lines.zip(sorts_in(file)) {
             let region = usize::from(line[41] - b'0');
-            self.verdict(PAGE_LINES, is_reserve, region, line[59..63] == *b"over");
+            self.verdict(PAGE_LINES, sorts, region, line[59..63] == *b"over");
         }
     }
 
-    fn verdict(&mut self, by: usize, is_reserve: bool, region: usize, over: bool) {
+    fn verdict(&mut self, by: usize, sorts: Sorts, region: usize, over: bool) {
         self.verdicts.count(by, region, over);
-        if is_reserve {
-            self.verdicts_of_reserves.count(by, region, over);
+        for (verdicts, is_such) in self.verdicts_of.iter_mut().zip(sorts) {
+            if is_such {
+                verdicts.count(by, region, over);
+            }
         }
     }
 
     /// A site that was judged with a list, with the numbers of `forest_judge`.
     pub fn judged(&mut self, site: &Site, list: &[u8], numbers: &[u64]) {
         let terms = terms(site, list).expect("a judged site");
-        let is_reserve = site.entries == 0;
-        self.verdict(JUDGE, is_reserve, numbers[4] as usize, numbers[7] == 1);
+        let (region, over) = (numbers[4] as usize, numbers[7] == 1);
+        let [is_reserve, is_55] = sorts_of(site);
+        self.verdict(JUDGE, [is_reserve, is_55], region, over);
         self.parent_materials[usize::from(site.parent_material)] += 1;
         self.drainages[usize::from(site.drainage)] += 1;
         if site.parent_material == 0 {
             self.peat[usize::from(site.drainage)] += 1;
-            self.peat_regions[numbers[4] as usize] += 1;
-            let over = over_by_drainage(site, &terms, numbers);
-            self.peat_within_by_800 += u64::from(numbers[7] == 0 && over);
+            self.peat_regions[region] += 1;
+            let by_drainage = over_by_drainage(site, &terms, numbers);
+            self.peat_within_by_800 += u64::from(!over && by_drainage);
         }
         for entry in &site.stand[..usize::from(site.entries)] {
             if let Some(count) = self.table.get_mut(usize::from(entry.species)) {
@@ -201,12 +217,18 @@ impl Tally {
         if is_reserve {
             self.reserves.judged(site, list);
         }
+        if is_55 {
+            self.bicarbonate.judged(site, list, region, over);
+        }
     }
 
     /// A site value at which so many levels were compared.
     pub fn compared(&mut self, value: &[u8], levels: usize) {
-        self.compared[0][levels] += 1;
-        self.compared[1][levels] += u64::from(reserve_in(value).is_some());
+        self.compared[levels] += 1;
+        let site = Site::from_bytes(value).expect("a site with a level");
+        for (counts, is_such) in self.compared_of.iter_mut().zip(sorts_of(&site)) {
+            counts[levels] += u64::from(is_such);
+        }
     }
 
     /// A site value with its list and its sampler's months: the result in a buffer with room, and the numbers there.
@@ -219,8 +241,13 @@ impl Tally {
         numbers: &[u64; 10],
     ) {
         if result == 10 {
-            let is_reserve = reserve_in(value).is_some();
-            self.verdict(SAMPLE, is_reserve, numbers[6] as usize, numbers[9] == 1);
+            let site = Site::from_bytes(value).expect("a judged site");
+            self.verdict(
+                SAMPLE,
+                sorts_of(&site),
+                numbers[6] as usize,
+                numbers[9] == 1,
+            );
         }
         if let (Ok(()), Ok(site)) = (forest::check_list(list), Site::from_bytes(value)) {
             self.sampled.count(&site, list, months, result, numbers);
@@ -235,7 +262,7 @@ impl Tally {
         print!("{:<24}", "");
         sources.iter().for_each(|(name, _)| print!("{name:>10}"));
         println!();
-        for rule in 0..=17 {
+        for rule in (0..=17).chain([21]) {
             match rule {
                 0 => print!("{:<24}", "success"),
                 _ => print!("{:<24}", format!("refusal {rule}")),
@@ -249,8 +276,10 @@ impl Tally {
 
         let named = |name: &str| name.to_string();
         let mut rows = self.verdicts.rows();
-        let of_reserves = self.verdicts_of_reserves.rows().into_iter();
-        rows.extend(of_reserves.map(|(name, counts)| (format!("reserve, {name}"), counts)));
+        for (sort, verdicts) in SORTS.into_iter().zip(&self.verdicts_of) {
+            let verdicts = verdicts.rows().into_iter();
+            rows.extend(verdicts.map(|(name, counts)| (format!("{sort}, {name}"), counts)));
+        }
         absent += table(["judge", "lines", "pages", "sample"], rows);
 
         let mut kinds: Vec<(String, u64)> = Vec::new();
@@ -270,34 +299,38 @@ impl Tally {
         kinds.extend(self.kinds.judged_rows());
         kinds.extend(self.species.judged_rows());
         kinds.extend(self.reserves.judged_rows());
+        kinds.extend(self.bicarbonate.judged_rows());
         absent += column("judge", kinds);
 
         let names = SOURCES.map(|(name, _)| name);
-        absent += table_of_due(names, self.reserves.answer_rows(with_program));
+        let mut answers = self.reserves.answer_rows(with_program);
+        answers.extend(self.bicarbonate.answer_rows(with_program));
+        absent += table_of_due(names, answers);
 
         let calls = ["rewrite", "list", "convert", "judge"];
-        absent += table(calls, self.kinds.accepted_rows());
+        absent += table_of_due(calls, self.kinds.accepted_rows());
         absent += column("list", self.kinds.files());
         let calls = ["rewrite", "list", "convert"];
         let mut refusals = self.kinds.refusal_rows();
-        refusals.extend(self.reserves.record_rows());
-        absent += table(calls, refusals);
+        refusals.extend(all_due(self.reserves.record_rows()));
+        absent += table_of_due(calls, refusals);
         let calls = ["check", "loads", "level", "judge", "sample"];
         let mut values = self.kinds.value_rows();
         values.extend(self.reserves.fault_rows());
         absent += table(calls, values);
 
-        absent += table(Species::WITH, self.species.rows());
+        absent += table_of_due(Species::WITH, self.species.rows());
         absent += table_of_due(Species::WITH, self.species.orders());
 
         absent += table_of_due(["to 52", "to 53", "to 54"], self.converted.rows());
         absent += column("convert", self.converted.other_rows());
 
-        let [compared, at_reserves] = self.compared;
         let mut rows = COMPARED
-            .map(|k| (format!("compared: {k}"), compared[k]))
+            .map(|k| (format!("compared: {k}"), self.compared[k]))
             .to_vec();
-        rows.extend(COMPARED.map(|k| (format!("reserve, compared: {k}"), at_reserves[k])));
+        for (sort, counts) in SORTS.into_iter().zip(self.compared_of) {
+            rows.extend(COMPARED.map(|k| (format!("{sort}, compared: {k}"), counts[k])));
+        }
         absent += column("level", rows);
 
         let borders = PAGE_BORDERS.map(|count| format!("records: {count}"));
@@ -317,6 +350,16 @@ fn over_by_drainage(site: &Site, terms: &Terms, numbers: &[u64]) -> bool {
     left > 1000 * terms.leaching as u64 || 1000 * u64::from(site.sulphur) + left > 1000 * numbers[0]
 }
 
+fn sorts_of(site: &Site) -> Sorts {
+    [site.entries == 0, site.kind as u8 == KIND_55]
+}
+
+/// Those of the records of an accepted file.
+fn sorts_in(file: &[u8]) -> impl Iterator<Item = Sorts> + '_ {
+    let sorts = |(_, record): (usize, &[u8])| [entries_of(record) == 0, record[0] == KIND_55];
+    fields_in(file, 0, file.len()).map(sorts)
+}
+
 /// Counts by number, each named with it.
 fn numbered<'a>(name: &'a str, counts: &'a [u64]) -> impl Iterator<Item = (String, u64)> + 'a {
     (0..)
@@ -332,8 +375,13 @@ fn column(title: &str, kinds: Vec<(String, u64)>) -> u64 {
 
 /// Prints columns of kinds that are all due; returns how many never occurred.
 fn table<const N: usize>(titles: [&str; N], rows: Vec<(String, [u64; N])>) -> u64 {
-    let all_due = |(name, counts): (String, [u64; N])| (name, counts.map(|count| (count, true)));
-    table_of_due(titles, rows.into_iter().map(all_due).collect())
+    table_of_due(titles, all_due(rows))
+}
+
+/// The rows, all due.
+fn all_due<const N: usize>(rows: Vec<(String, [u64; N])>) -> Vec<(String, [(u64, bool); N])> {
+    let due = |(name, counts): (String, [u64; N])| (name, counts.map(|count| (count, true)));
+    rows.into_iter().map(due).collect()
 }
 
 /// Prints columns of kinds, each with whether it is due; returns how many that are due never occurred.
