@@ -1,7 +1,6 @@
 /*
- * The calls of forest.h as C sees them, on the record A1 of document 01, on this record in kinds 53, 54 and 55, and on A1 as a
- * reserve: every answer, every element of the lent buffer, and nothing, by null pointers. The last line is how many passed and
- * failed.
+ * The calls of forest.h as C sees them, on the record A1, on this record in kinds 53, 54 and 55, and on A1 as a reserve: every
+ * answer, every element of the lent buffer, and nothing, by null pointers. The last line is how many passed and failed.
  */
 #include "forest.h"
 

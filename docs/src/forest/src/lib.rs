@@ -1,7 +1,6 @@
-//! Critical loads, exceedances and verdicts of forest sites, as document 01 and E2 of document 02 state them, with the pages of E1,
-//! the rain sampler of E3, the hydrogen search of E4, the temperature of E5, the species list of E6, the conversion of E7, the
-//! reserves of E8 and the bicarbonate of near-neutral soils. Every call that takes a file, a record or a site takes the bytes of
-//! the list after it.
+//! Critical loads, exceedances and verdicts of forest sites, as the customer's documents state them, with the pages, the rain
+//! sampler, the hydrogen search, the temperature, the species list, the conversion, the reserves and the bicarbonate of
+//! near-neutral soils. Every call that takes a file, a record or a site takes the bytes of the list after it.
 //!
 //! Numbers are `i64` throughout, but for those of which t is worked out: the greatest product, Q × K × h³, is 3.75 × 10¹⁸.
 

@@ -1,6 +1,6 @@
-//! Each refusal of document 01 with its offset, and those of E5's field 10; every one leaves the buffer as it was. Those of E6
-//! stand in `species.rs`, that of E7 in `convert.rs`, what is left of them at a reserve in `reserves.rs`, and those of field 11 and a
-//! negative CLmaxS in `bicarbonate.rs`.
+//! Each refusal of a file and of a site value with its offset, with those of field 10; every one leaves the buffer as it was.
+//! Those of species stand in `species.rs`, that of a conversion in `convert.rs`, what is left of them at a reserve in
+//! `reserves.rs`, and those of field 11 and of a negative CLmaxS in `bicarbonate.rs`.
 
 mod common;
 

@@ -1,4 +1,4 @@
-//! The record A1 of document 01 and its parts, and what all calls refuse. No test takes all of it.
+//! The record A1 and its parts, and what all calls refuse. No test takes all of it.
 
 #![allow(dead_code)]
 
