@@ -37,8 +37,8 @@ pub fn walk_file(file: &[u8], list: SpeciesList<'_>) -> Result<ArrayVec<Row, 500
 {
     let mut records = Records::of(RecordKind::Tag55, file, list)?;
     let mut rows = ArrayVec::new();
-    while let Some(found) = records.next()? {
-        rows.push(row_of(found.passed()?));
+    while let Some(passed) = records.next()? {
+        rows.push(row_of(passed));
     }
     Ok(rows)
 }

@@ -10,7 +10,6 @@ use lib.ListN.{length, length-append}
 use lib.Seq.{append_snoc}
 use Rattle.std.specs.Prelude.{Option, Some, None, Result, Ok, Err}
 use Rattle.site.specs.Ranges.{most_records}
-use Rattle.site.specs.Refusal.{Checked, unless}
 use Rattle.site.specs.declared.RecordKind.{RecordKind}
 use Rattle.site.specs.declared.Site.{Site}
 use Rattle.site.specs.declared.Refusal.{Refusal}
@@ -18,84 +17,69 @@ use Rattle.site.specs.declared.Rule.TheVariants.{TooMany}
 use Rattle.site.proofs.MapLaws.{map_id}
 use Rattle.loads.specs.SiteTerms.{terms_of}
 use Rattle.loads.specs.MaxS.{load_rule}
-use Rattle.record.specs.declared.found.FieldsFound.{FieldsFound}
-use Rattle.record.specs.Outer.{dioxide_length, fields_at, with_load, site_to}
+use Rattle.record.specs.Outer.{dioxide_length, fields_at, site_to}
 use Rattle.record.specs.Result.{result_numbers}
 use Rattle.record.specs.File.{Contents, first, onto, made_of}
-use Rattle.record.specs.Unread.{found_in, step_of, after_step, sites_from, came, given}
+use Rattle.record.specs.Unread.{step_of, after_step, sites_from, came, given, Steps}
 use Rattle.record.proofs.FileLaws.{file_end, file_full, file_step}
-use Rattle.record.proofs.LoadRuleLaws.{err_with}
+use Rattle.record.proofs.LoadRuleLaws.{ok_with, err_with, broken_with}
 
--- ---- what is still to come
-
--- rule 21 of a record in front of what follows it
-lost_onto : (c : Checked) (at : ℕ) (x : Site × ℕ) (more : ℕ → Contents Site) → onto (unless c at (Ok x)) more ≡ unless c at (first x.0 (more x.1))
-unfolding unless onto
-lost_onto (Ok tt) at x more = refl
-lost_onto (Err r) at x more = refl
+-- ---- the steps
 
 module _ (newest : RecordKind) (list f : List ℕ) (n at : ℕ) where
-  pub unread_end : length f ≤ at → sites_from newest list f n at ≡ Ok []
-  unread_end h = file_end (site_to newest list f) (length f) n at h
+  abbrev read : ℕ → Result (Site × ℕ) Refusal
+  read = site_to newest list f
 
-  pub unread_full : at < length f → n ≡ 0 → sites_from newest list f n at ≡ Err (record { rule = TooMany; at = at })
-  unread_full h z = rw z (file_full (site_to newest list f) (length f) at h)
+  pub step_end : length f ≤ at → Steps newest list f n at (Ok None) n at
+  unfolding step_of after_step came
+  step_end h = record {
+    answer = rw (le-leb (length f) at h);
+    after = rw (le-leb (length f) at h);
+    walk = file_end read (length f) n at h;
+    fewer = omega arith;
+  }
+
+  pub step_full : at < length f → n ≡ 0 → Steps newest list f n at (Err (record { rule = TooMany; at = at })) n at
+  unfolding step_of after_step came
+  step_full h z = record {
+    answer = rw (lt-leb (length f) at h, z);
+    after = rw (lt-leb (length f) at h, z);
+    walk = rw z (file_full read (length f) at h);
+    fewer = omega arith;
+  }
 
   module _ (h : at < length f) (some : 1 ≤ n) where
-    step : sites_from newest list f n at ≡ onto (site_to newest list f at) (sites_from newest list f (n - 1))
-    step =
-        let z : n ≡ suc (n - 1) = omega arith in
-        ap (λ k. sites_from newest list f k at) z ∙ file_step (site_to newest list f) (length f) (n - 1) at h
-
-    pub unread_refused : {r : Refusal} → fields_at newest list f at ≡ Err r → sites_from newest list f n at ≡ Err r
-    unfolding onto site_to
-    unread_refused e = step ∙ rw (err_with list e)
-
-    pub unread_found : (x : FieldsFound) → fields_at newest list f at ≡ Ok (found_in x)
-        → sites_from newest list f n at ≡ came list (Ok (Some x)) (sites_from newest list f (n - 1) x.next)
-    unfolding site_to with_load came
-    unread_found x e =
-        let c = load_rule (terms_of list x.checked.site) in
-        step ∙ rw e (lost_onto c (x.next - dioxide_length) (found_in x) (sites_from newest list f (n - 1)))
-
--- ---- what a step gives, and where it leads
-
-module _ (read : ℕ → Result (Site × ℕ) Refusal) (len n at : ℕ) where
-  pub step_end : len ≤ at → Ok None ≡ step_of read len n at
-  unfolding step_of
-  step_end h = rw (le-leb len at h)
-
-  pub after_end : len ≤ at → (n, at) ≡ after_step read len n at
-  unfolding after_step
-  after_end h = rw (le-leb len at h)
-
-  pub step_full : at < len → n ≡ 0 → Err (record { rule = TooMany; at = at }) ≡ step_of read len n at
-  unfolding step_of
-  step_full h z = rw (lt-leb len at h, z)
-
-  pub after_full : at < len → n ≡ 0 → (n, at) ≡ after_step read len n at
-  unfolding after_step
-  after_full h z = rw (lt-leb len at h, z)
-
-  module _ (h : at < len) (some : 1 ≤ n) where
     here : eqb n 0 ≡ false
     here = ne_eqb n 0 (λ z. omega arith)
 
-    pub step_refused : {r : Refusal} → read at ≡ Err r → Err r ≡ step_of read len n at
-    unfolding step_of
-    step_refused e = rw (lt-leb len at h, here, e)
+    step : sites_from newest list f n at ≡ onto (read at) (sites_from newest list f (n - 1))
+    step = let z : n ≡ suc (n - 1) = omega arith in ap (λ k. sites_from newest list f k at) z ∙ file_step read (length f) (n - 1) at h
 
-    pub after_refused : {r : Refusal} → read at ≡ Err r → (n, at) ≡ after_step read len n at
-    unfolding after_step
-    after_refused e = rw (lt-leb len at h, here, e)
+    refused : {r : Refusal} → read at ≡ Err r → Steps newest list f n at (Err r) n at
+    unfolding step_of after_step came onto
+    refused e = record { answer = rw (lt-leb (length f) at h, here, e); after = rw (lt-leb (length f) at h, here, e); walk = step ∙ rw e; fewer = omega arith }
 
-    pub step_found : {x : Site × ℕ} → read at ≡ Ok x → Ok (Some x) ≡ step_of read len n at
-    unfolding step_of
-    step_found e = rw (lt-leb len at h, here, e)
+    -- by the fields
+    pub step_refused : {r : Refusal} → fields_at newest list f at ≡ Err r → Steps newest list f n at (Err r) n at
+    unfolding site_to
+    step_refused e = refused (err_with list e)
 
-    pub after_found : {x : Site × ℕ} → read at ≡ Ok x → (n - 1, x.1) ≡ after_step read len n at
-    unfolding after_step
-    after_found e = rw (lt-leb len at h, here, e)
+    module _ {x : Site × ℕ} (e : fields_at newest list f at ≡ Ok x) where
+      -- by rule 21
+      pub step_lost : {r : Refusal} → load_rule (terms_of list x.0) ≡ Err r.rule → r.at ≡ x.1 - dioxide_length → Steps newest list f n at (Err r) n at
+      unfolding site_to
+      step_lost l o = refused (rw (broken_with list e l, ← o))
+
+      pub step_found : load_rule (terms_of list x.0) ≡ Ok tt → Steps newest list f n at (Ok (Some x.0)) (n - 1) x.1
+      unfolding step_of after_step came onto site_to
+      step_found l =
+          let r = ok_with list e l in
+          record {
+            answer = rw (lt-leb (length f) at h, here, r);
+            after = rw (lt-leb (length f) at h, here, r);
+            walk = step ∙ ap (λ q. onto q (sites_from newest list f (n - 1))) r;
+            fewer = omega arith;
+          }
 
 -- ---- a loop that makes an element of each site: those so far, in front of those of the sites to come
 
@@ -127,8 +111,7 @@ module _ {A : Type 0} (make : Site → A) where
   pub so_start : {whole rest : Contents Site} {left : ℕ} → whole ≡ rest → left ≡ most_records → SoFar whole [] rest left
   so_start {whole} {rest} e l = record { room = omega arith; goes_on = before_none whole ∙ ap (before []) e }
 
-  module _ (list : List ℕ) {whole old : Contents Site} {xs : List A} {left : ℕ} (so : SoFar whole xs old left) (q : Result (Option FieldsFound) Refusal) (new : Contents Site)
-      (step : old ≡ came list q new) where
+  module _ {whole old : Contents Site} {xs : List A} {left : ℕ} (so : SoFar whole xs old left) (q : Result (Option Site) Refusal) (new : Contents Site) (step : old ≡ came q new) where
     pub so_end : q ≡ Ok None → made_of make whole ≡ Ok xs
     unfolding before came
     so_end e = so.goes_on ∙ rw (step, e, append-nil)
@@ -137,20 +120,12 @@ module _ {A : Type 0} (make : Site → A) where
     unfolding before came
     so_fault e = made_fault whole (so.goes_on ∙ rw (step, e))
 
-    module _ {x : FieldsFound} (e : q ≡ Ok (Some x)) where
-      -- rule 21 is broken
-      pub so_lost : {r : Refusal} → load_rule (terms_of list x.checked.site) ≡ Err r.rule → r.at ≡ x.next - dioxide_length → whole ≡ Err r
-      unfolding before came unless
-      so_lost l o = made_fault whole (so.goes_on ∙ rw (step, e, l, ← o))
-
-      -- or passes
-      pub so_more : load_rule (terms_of list x.checked.site) ≡ Ok tt → (after : ℕ) → left ≡ after + given q
-          → SoFar whole (xs ++ (make x.checked.site ∷ [])) new after
-      unfolding came unless
-      so_more l after takes = record {
-        room = simp length-append (omega (arith, so.room, rw e at takes));
-        goes_on = so.goes_on ∙ rw (step, e, l) (before_first xs x.checked.site new);
-      }
+    pub so_more : {s : Site} → q ≡ Ok (Some s) → (after : ℕ) → left ≡ after + given q → SoFar whole (xs ++ (make s ∷ [])) new after
+    unfolding came
+    so_more {s} e after takes = record {
+      room = simp length-append (omega (arith, so.room, rw e at takes));
+      goes_on = so.goes_on ∙ rw (step, e) (before_first xs s new);
+    }
 
 -- the numbers of what is made are those of the file
 pub made_numbers : {A : Type 0} (make : Site → A) (c : Contents Site) → result_numbers (made_of make c) ≡ result_numbers c

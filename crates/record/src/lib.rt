@@ -10,7 +10,7 @@ mod records;
 mod value;
 mod writer;
 
-pub use found::{FieldsFound, Found};
+pub use found::Found;
 pub use outer::{read_at, read_record};
 pub use records::{Records, read_sites};
 pub use writer::{put_record, record_len, write_record};

@@ -10,8 +10,8 @@ ghost use Rattle.record.specs.Unread.{found_in};
 ghost use Rattle.record.specs.Writer.{WritesAgain};
 
 use crate::bytes::stated_len;
+use crate::found::{FieldsFound, Found};
 use crate::inner::read_fields;
-use crate::{FieldsFound, Found};
 use site::{CheckedFields, RecordKind, Refusal, Rule, Site, SpeciesList};
 
 // Rules 2 and 3 at the bytes that are left, and the kind of the record there.

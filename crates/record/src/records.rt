@@ -1,13 +1,14 @@
 // The walk over a file: a record at a time, or all of them.
-ghost use Rattle.std.specs.Prelude.{◌≡◌, ◌+◌, length, IfOk, IfSome, Ok, Err, MatchResult};
-ghost use Rattle.record.specs.File.{contents_to};
+ghost use Rattle.std.specs.Prelude.{◌≡◌, ◌-◌, ◌≤◌, ◌<◌, length, IfOk, IfErr, IfSome, Some, None, Ok, Err, MatchResult};
 ghost use Rattle.record.specs.Outer.{fields_at};
+ghost use Rattle.record.specs.File.{contents_to};
 ghost use Rattle.record.specs.Result.{result_numbers};
-ghost use Rattle.record.specs.Unread.{next_of, step_of, after_step, file_in, list_in, newest_in, may_come, next_at, unread, came, given};
+ghost use Rattle.record.specs.Unread.{file_in, list_in, newest_in, may_come, next_at, unread, found_in, site_of, Steps};
 
-use crate::FieldsFound;
+use crate::found::FieldsFound;
 use crate::outer::fields_at;
 use arrayvec::ArrayVec;
+use loads::PassedSite;
 use site::{RecordKind, Refusal, Rule, Site, SpeciesList};
 
 // The records of a file that are still to be read: of which kinds they may be, where the next one starts, and how many may come.
@@ -44,15 +45,11 @@ impl<'a> Records<'a> {
         })
     }
 
-    // The fields of the next record, or none at the end of the file; rule 21 is its caller's to ask. Kept a function of its own: written into the walk over a file
-    // it has the program's rows laid out once more on the stack.
-    #[inline(never)]
-    pub fn next(&mut self) -> Result<Option<FieldsFound<'a>>, Refusal>
-        ensures answer { next_of result ≡ step_of (fields_at (newest_in self.old) (list_in self.old) (file_in self.old)) (length (file_in self.old)) (may_come self.old) (next_at self.old) }
-        ensures after { (may_come self.new, next_at self.new) ≡ after_step (fields_at (newest_in self.old) (list_in self.old) (file_in self.old)) (length (file_in self.old)) (may_come self.old) (next_at self.old) }
-        ensures file { (file_in self.new ≡ file_in self.old) × (list_in self.new ≡ list_in self.old) × (newest_in self.new ≡ newest_in self.old) }
-        ensures walk { (unread self.old ≡ came (list_in self.old) result (unread self.new)) × (may_come self.old ≡ may_come self.new + given result) }
-        ensures list { IfOk result (λ next. IfSome next (λ found. found.checked.list.bytes.now ≡ list_in self.old)) }
+    // The fields of the record that comes next, or none at the end of the file; the walk stays where it is.
+    fn peek(&self) -> Result<Option<FieldsFound<'a>>, Refusal>
+        ensures found { (x : FieldsFound) → result ≡ Ok (Some x) → (next_at self.now < length (file_in self.now)) × (1 ≤ may_come self.now) × (fields_at (newest_in self.now) (list_in self.now) (file_in self.now) (next_at self.now) ≡ Ok (found_in x)) × (x.checked.list.bytes.now ≡ list_in self.now) }
+        ensures none { result ≡ Ok None → Steps (newest_in self.now) (list_in self.now) (file_in self.now) (may_come self.now) (next_at self.now) (Ok None) (may_come self.now) (next_at self.now) }
+        ensures refused { IfErr result (λ r. Steps (newest_in self.now) (list_in self.now) (file_in self.now) (may_come self.now) (next_at self.now) (Err r) (may_come self.now) (next_at self.now)) }
     {
         if self.file.len() <= self.at {
             return Ok(None);
@@ -62,9 +59,45 @@ impl<'a> Records<'a> {
             return Err(Refusal { rule, at: self.at });
         }
         let found = fields_at(self.newest, self.file, self.at, self.list)?;
-        self.at = found.next;
-        self.left -= 1;
         Ok(Some(found))
+    }
+
+    // Goes on behind a record.
+    fn go_on(&mut self, next: usize)
+        requires { 1 ≤ may_come self.old }
+        ensures { self.new ≡ record self.old { at = next; left = may_come self.old - 1 } }
+    {
+        self.at = next;
+        self.left -= 1;
+    }
+
+    // The next record, with the loads that its last rule works out, or none at the end of the file. Kept a function of its own: written into the walk over a file it
+    // has the program's rows laid out once more on the stack.
+    #[inline(never)]
+    pub fn next(&mut self) -> Result<Option<PassedSite<'a>>, Refusal>
+        ensures steps { Steps (newest_in self.old) (list_in self.old) (file_in self.old) (may_come self.old) (next_at self.old) (site_of result) (may_come self.new) (next_at self.new) }
+        ensures file { (file_in self.new ≡ file_in self.old) × (list_in self.new ≡ list_in self.old) × (newest_in self.new ≡ newest_in self.old) }
+        ensures list { IfOk result (λ next. IfSome next (λ passed. passed.list.bytes.now ≡ list_in self.old)) }
+    {
+        let Some(found) = self.peek()? else {
+            return Ok(None);
+        };
+        let passed = found.passed()?;
+        self.go_on(found.next);
+        Ok(Some(passed))
+    }
+
+    // The site of the next record alone, whose loads are worked out only where rule 21 can be broken.
+    fn next_site(&mut self) -> Result<Option<Site>, Refusal>
+        ensures steps { Steps (newest_in self.old) (list_in self.old) (file_in self.old) (may_come self.old) (next_at self.old) result (may_come self.new) (next_at self.new) }
+        ensures file { (file_in self.new ≡ file_in self.old) × (list_in self.new ≡ list_in self.old) × (newest_in self.new ≡ newest_in self.old) }
+    {
+        let Some(found) = self.peek()? else {
+            return Ok(None);
+        };
+        found.check_load()?;
+        self.go_on(found.next);
+        Ok(Some(found.checked.site))
     }
 }
 
@@ -79,9 +112,8 @@ pub fn read_sites(
 {
     let mut records = Records::of(newest, file, list)?;
     let mut sites = ArrayVec::new();
-    while let Some(found) = records.next()? {
-        found.check_load()?;
-        sites.push(found.checked.site);
+    while let Some(site) = records.next_site()? {
+        sites.push(site);
     }
     Ok(sites)
 }
