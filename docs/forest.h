@@ -111,21 +111,21 @@
 extern "C" {
 #endif
 
-/* The listing of a file of records. A buffer of FOREST_MOST_TEXT bytes is always long enough. Stack: 72 KiB. */
+/* The listing of a file of records. A buffer of FOREST_MOST_TEXT bytes is always long enough. Stack: 73 KiB. */
 uint64_t forest_list(const uint8_t *file, size_t file_len, const uint8_t *list, size_t list_len, uint8_t *out, size_t out_len);
 
 /* The listing as pages of 60 lines: a header and 59 sites, on the last page 1 to 59, and a short last page is not filled.
  * Every line is 64 characters and then 0A (hexadecimal): the name left in 8; right the four loads in 8 each, the region in
  * 2, the two exceedances in 7 each, the verdict in 7; one space. The buffer is for all pages together: one of
- * FOREST_MOST_PAGES bytes is always long enough. Stack: 72 KiB. */
+ * FOREST_MOST_PAGES bytes is always long enough. Stack: 73 KiB. */
 uint64_t forest_pages(const uint8_t *file, size_t file_len, const uint8_t *list, size_t list_len, uint8_t *out, size_t out_len);
 
 /* The listing, or the line `refused N at M`, also where the list is refused; with an empty list, what the program prints for
- * the file. 11 alone is a refusal here, and does not come with a buffer of FOREST_MOST_TEXT bytes. Stack: 72 KiB. */
+ * the file. 11 alone is a refusal here, and does not come with a buffer of FOREST_MOST_TEXT bytes. Stack: 73 KiB. */
 uint64_t forest_report(const uint8_t *file, size_t file_len, const uint8_t *list, size_t list_len, uint8_t *out, size_t out_len);
 
 /* A single record, read and written again: a buffer as long as the record, at most FOREST_MOST_RECORD bytes, is long enough.
- * Stack: 1 KiB. */
+ * Stack: 2 KiB. */
 uint64_t forest_rewrite(const uint8_t *record, size_t record_len, const uint8_t *list, size_t list_len, uint8_t *out,
                         size_t out_len);
 
@@ -137,20 +137,20 @@ uint64_t forest_rewrite(const uint8_t *record, size_t record_len, const uint8_t 
  * Kind 55 is neither moved nor a target. Refused are, in this order: a target other than the three (3, at 0); the list (15);
  * the file, as by forest_list (1 to 10 and 16), but that an outer tag of 55 is refused by 3 at its field, whatever follows; the
  * first field from the left that cannot go down, 07 ahead of 10 in a record (17); a buffer shorter than the moved file (11). A
- * moved record has at most 104 bytes: a buffer of FOREST_MOST_CONVERTED bytes is always long enough. Stack: 64 KiB. */
+ * moved record has at most 104 bytes: a buffer of FOREST_MOST_CONVERTED bytes is always long enough. Stack: 66 KiB. */
 uint64_t forest_convert(const uint8_t *file, size_t file_len, const uint8_t *list, size_t list_len, uint8_t target,
                         uint8_t *out, size_t out_len);
 
-/* The check of a list and a site value: 0, or the first rule they break. Stack: 1 KiB. */
+/* The check of a list and a site value: 0, or the first rule they break. Stack: 2 KiB. */
 uint64_t forest_check(const uint8_t *site, size_t site_len, const uint8_t *list, size_t list_len);
 
-/* Four numbers: CLmaxS, CLminN, CLmaxN, CLnutN. Stack: 1 KiB. */
+/* Four numbers: CLmaxS, CLminN, CLmaxN, CLnutN. Stack: 2 KiB. */
 uint64_t forest_loads(const uint8_t *site, size_t site_len, const uint8_t *list, size_t list_len, uint64_t *out, size_t out_len);
 
 /* Two numbers: the greatest allowed hydrogen level h, in tenths of meq per cubic metre, and how many levels the search
  * compared with the aluminium limit. It looks at the ceiling first and, only if that is not allowed, always at the mean,
  * down, of the greatest level known allowed (0 at first, not compared) and the least known not, until these are neighbours.
- * So the count is 1 exactly where the ceiling is allowed, and never more than 14. Stack: 1 KiB. */
+ * So the count is 1 exactly where the ceiling is allowed, and never more than 14. Stack: 2 KiB. */
 uint64_t forest_level(const uint8_t *site, size_t site_len, const uint8_t *list, size_t list_len, uint64_t *out, size_t out_len);
 
 /* Eight numbers: the four loads, region (0 to 4), acid exceedance, nutrient exceedance, mark (0 within, 1 over).
@@ -161,7 +161,7 @@ uint64_t forest_judge(const uint8_t *site, size_t site_len, const uint8_t *list,
  * forest_judge for the site with this pair. Each reading counts in whole micrograms per litre, up, a value below the limit
  * as the limit. S is the sum of mm times micrograms, divided by 1600, up; N that of both forms of nitrogen, divided by 1400,
  * up. List and site are checked first, then the length of the months, then each month in order: rain (8), sulphate, nitrate,
- * ammonium (12 or 13, also in a month without rain). Stack: 2 KiB. */
+ * ammonium (12 or 13, also in a month without rain). Stack: 3 KiB. */
 uint64_t forest_sample(const uint8_t *site, size_t site_len, const uint8_t *list, size_t list_len, const uint8_t *months,
                        size_t months_len, uint64_t *out, size_t out_len);
 

@@ -4,7 +4,7 @@ ghost use Rattle.convert.specs.Target.{kind_of, target_by};
 
 use site::{RecordKind, Rule};
 
-// The kinds that a file can be moved to, by their outer tags. None has field 11: a record of kind 55 is not converted.
+/// The kinds that a file can be moved to, by their outer tags. None has field 11: a record of kind 55 is not converted.
 #[derive(Clone, Copy, Debug, PartialEq, Eq)]
 pub enum Target {
     Kind52 = 0x52,
@@ -13,7 +13,7 @@ pub enum Target {
 }
 
 impl Target {
-    // The kind of record that a site has when it is moved.
+    /// The kind of record that a site has when it is moved.
     pub fn kind(self) -> RecordKind
         ensures { result ≡ kind_of self }
     {
@@ -25,7 +25,7 @@ impl Target {
     }
 }
 
-// The target with an outer tag, or rule 3.
+/// The target with an outer tag, or rule 3.
 impl TryFrom<u8> for Target {
     type Error = Rule;
 

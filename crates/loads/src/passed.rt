@@ -10,7 +10,7 @@ use crate::Loads;
 use crate::valid::ValidSite;
 use site::{CheckedFields, Rule, Site, SpeciesList};
 
-// A site that passes the check, with the list of its species and its loads. A call that takes it need not check or work out any of them again.
+/// A site that passes the whole check, with the list of its species and its loads. A call that takes it need not check or work out any of them again.
 #[derive(Clone, Copy)]
 pub struct PassedSite<'a> {
     pub site: Site,
@@ -21,7 +21,7 @@ pub struct PassedSite<'a> {
 }
 
 impl<'a> PassedSite<'a> {
-    // A site whose fields pass, where its CLmaxS is not below zero.
+    /// The site whose fields pass, or rule 21 where its CLmaxS would be below zero.
     #[tactic(auto, unfolding(crate::specs::Check::site_rule, site::specs::Refusal::and_then))]
     pub fn of(fields: CheckedFields<'a>) -> Result<PassedSite<'a>, Rule>
         ensures { MatchResult result (λ p. (site_rule fields.entry.list.bytes.now fields.entry.site ≡ Ok tt) × (p.site ≡ fields.entry.site) × (p.list.bytes.now ≡ fields.entry.list.bytes.now)) (λ rule. site_rule fields.entry.list.bytes.now fields.entry.site ≡ Err rule) }
@@ -31,6 +31,7 @@ impl<'a> PassedSite<'a> {
         Ok(PassedSite { site, list, loads })
     }
 
+    /// The site, or the first rule that it breaks: 7 to 10 and 16 by tag, then 21.
     #[tactic(auto, unfolding(crate::specs::Check::site_rule, site::specs::Refusal::and_then))]
     pub fn checked(site: Site, list: SpeciesList<'a>) -> Result<PassedSite<'a>, Rule>
         ensures { MatchResult result (λ p. (site_rule list.entry.bytes.now site ≡ Ok tt) × (p.site ≡ site) × (p.list.bytes.now ≡ list.entry.bytes.now)) (λ rule. site_rule list.entry.bytes.now site ≡ Err rule) }
@@ -39,7 +40,7 @@ impl<'a> PassedSite<'a> {
     }
 }
 
-// Rule 21 alone. Where P is 0 it is never broken, so nothing is worked out.
+/// Rule 21 alone: CLmaxS is not below zero. Where P is 0 it never is, so nothing is worked out.
 #[tactic(auto, using(crate::proofs::CheckLaws::fields_then, crate::proofs::WithoutBicarbonateLaws::unlost_rule))]
 pub fn check_load(fields: CheckedFields<'_>) -> Result<(), Rule>
     ensures { result ≡ load_rule (terms_of fields.entry.list.bytes.now fields.entry.site) }
@@ -50,7 +51,7 @@ pub fn check_load(fields: CheckedFields<'_>) -> Result<(), Rule>
     Ok(())
 }
 
-// The check alone.
+/// The whole check alone: passed, or the first rule that is broken, 7 to 10 and 16 by tag, then 21.
 #[tactic(auto, using(crate::proofs::CheckLaws::site_numbered), unfolding(crate::specs::Check::site_rule, site::specs::Refusal::and_then))]
 pub fn check_site(site: Site, list: SpeciesList<'_>) -> Result<(), Rule>
     ensures answer { result ≡ site_rule list.entry.bytes.now site }

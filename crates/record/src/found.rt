@@ -7,7 +7,7 @@ ghost use Rattle.record.specs.Outer.{dioxide_length};
 use loads::{PassedSite, check_load};
 use site::{CheckedFields, Refusal, Rule, Site};
 
-// A record of a file, and where the next one starts.
+/// A record of a file, and where the next one starts.
 #[derive(Clone, Copy)]
 pub struct Found {
     pub site: Site,

@@ -11,7 +11,7 @@ use arrayvec::ArrayVec;
 use loads::PassedSite;
 use site::{RecordKind, Refusal, Rule, Site, SpeciesList};
 
-// The records of a file that are still to be read: of which kinds they may be, where the next one starts, and how many may come.
+/// The records of a file that are still to be read: of which kinds they may be, where the next one starts, and how many may come.
 #[derive(Drop)]
 pub struct Records<'a> {
     file: &'a [u8],
@@ -22,7 +22,7 @@ pub struct Records<'a> {
 }
 
 impl<'a> Records<'a> {
-    // All the records of a file that has any byte. Of a kind above the newest none is known.
+    /// All the records of a file, or 1 at 0 where it has no byte. Of a kind above the newest none is known: 3 at its outer field.
     #[tactic(auto, using(crate::proofs::SiteFile::sites_none, crate::proofs::SiteFile::sites_some))]
     pub fn of(
         newest: RecordKind,
@@ -71,8 +71,8 @@ impl<'a> Records<'a> {
         self.left -= 1;
     }
 
-    // The next record, with the loads that its last rule works out, or none at the end of the file. Kept a function of its own: written into the walk over a file it
-    // has the program's rows laid out once more on the stack.
+    /// The next record, with the loads that its last rule works out, or none at the end of the file. A refusal leaves the walk where it is.
+    // Kept a function of its own: written into the walk over a file it has the program's rows laid out once more on the stack.
     #[inline(never)]
     pub fn next(&mut self) -> Result<Option<PassedSite<'a>>, Refusal>
         ensures steps { Steps (newest_in self.old) (list_in self.old) (file_in self.old) (may_come self.old) (next_at self.old) (site_of result) (may_come self.new) (next_at self.new) }
@@ -101,7 +101,7 @@ impl<'a> Records<'a> {
     }
 }
 
-// The sites of a file whose records are of kinds up to the newest, or its first fault.
+/// The sites of a file whose records are of kinds up to the newest, 1 to 500, or its first fault.
 pub fn read_sites(
     newest: RecordKind,
     file: &[u8],

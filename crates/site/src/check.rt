@@ -16,6 +16,8 @@ fn check_field(site: &Site, tag: u8, list: SpeciesList<'_>) -> Result<(), Rule>
     value_rule(site, tag, list)
 }
 
+/// The rules of the fields of a site value, 7 to 10 and 16, in the order of its kind's tags: passed, or the first that is broken. What the whole check asks beyond
+/// them is `check_load` of `loads`.
 #[tactic(auto, using(crate::proofs::FieldLaws::fields_next, crate::proofs::NumberLaws::numbered, crate::proofs::NumberLaws::known_site), unfolding(crate::specs::Check::due_rule, crate::specs::Check::fields_rule, crate::specs::Refusal::and_then))]
 pub fn check_due(site: Site, list: SpeciesList<'_>) -> Result<(), Rule>
     ensures answer { result ≡ due_rule list.entry.bytes.now site }

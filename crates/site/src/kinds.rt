@@ -53,7 +53,7 @@ impl RecordKind {
         0x10 < self.end()
     }
 
-    // Whether it has the field 11.
+    /// Whether it has the field 11.
     pub fn has_dioxide(self) -> bool
         ensures { result ≡ has_dioxide self }
     {
@@ -91,7 +91,7 @@ impl Site {
         }
     }
 
-    // The soil carbon dioxide P that counts: the site's own, and 0 where its kind has none.
+    /// The soil carbon dioxide P that counts, in units of 0.00001 atm: the site's own, and 0 where its kind has none.
     #[tactic(auto, unfolding(crate::specs::Kinds::counted_dioxide))]
     pub fn counted_dioxide(self) -> u16
         ensures { result ≡ counted_dioxide self }

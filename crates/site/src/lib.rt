@@ -59,8 +59,8 @@ pub enum RecordKind {
 }
 
 // The values of document 01, "The site's values", and of document 02, raw: every bad site can be held, and is refused by the check.
-// What its kind lacks is no part of a site: kind 52 has no temperature, and kind 55 alone has soil carbon dioxide. Temperature byte 0 is −5 °C. `Default`, here and of the fields' types, is what
-// `ArrayVec::new` fills its places with.
+// What its kind lacks is no part of a site: kind 52 has no temperature, and kind 55 alone has soil carbon dioxide. Temperature byte 0 is −5 °C.
+// `Default`, here and of the fields' types, is what `ArrayVec::new` fills its places with.
 #[derive(Clone, Copy, Default)]
 pub struct Site {
     pub kind: RecordKind,
@@ -82,6 +82,7 @@ pub struct Site {
     pub sulphur: u16,
     pub nitrogen: u16,
     pub temperature: u8,
+    /// Soil carbon dioxide P, in units of 0.00001 atm.
     pub dioxide: u16,
 }
 
