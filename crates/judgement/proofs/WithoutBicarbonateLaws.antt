@@ -4,9 +4,10 @@ use mathlib.Core.Path.{◌≡◌}
 use mathlib.Core.Logic.{◌↔◌}
 use mathlib.Core.List.{List}
 use native.Mathlib.Omega.{arith}
-use Rattle.std.specs.Prelude.{Result, Ok}
+use Rattle.std.specs.Prelude.{Result, Ok, Err}
 use Rattle.site.specs.declared.Rule.{Rule}
 use Rattle.site.specs.declared.Site.{Site}
+use Rattle.site.specs.Refusal.{and_then}
 use Rattle.site.specs.Kinds.{counted_dioxide}
 use Rattle.loads.specs.Terms.{Terms, TermBounds}
 use Rattle.loads.specs.SiteTerms.{terms_of}
@@ -19,7 +20,8 @@ use Rattle.judgement.specs.declared.Judged.{Judged}
 use Rattle.judgement.specs.declared.Verdict.TheVariants.{Within}
 use Rattle.judgement.specs.Answers.{judged_of}
 use Rattle.judgement.specs.Balance.{Closes}
-use Rattle.judgement.specs.WithoutBicarbonate.{ClosesUnlost, Unlost}
+use Rattle.judgement.specs.Verdicts.{region, acid_exceedance, nutrient_exceedance, verdict}
+use Rattle.judgement.specs.WithoutBicarbonate.{unlost_verdict, unlost_judgement, ClosesUnlost, Unlost}
 use Rattle.judgement.proofs.Demand3.{greatest_allowed, by_loss}
 use Rattle.judgement.proofs.AtSites.{site_bounds, demand_3}
 
@@ -58,6 +60,25 @@ module _ (t : Terms) (b : TermBounds t) (n : NothingLost t) (S N : ℕ) where
         };
         nitrogen_balance = k.nitrogen_balance;
       }
+
+module _ (list : List ℕ) (s : Site) (none : counted_dioxide s ≡ 0) where
+  nothing : NothingLost (terms_of list s)
+  nothing = Loads.unlost list s none
+
+  verdict_unlost : (S N : ℕ) → verdict (terms_of list s) S N ≡ unlost_verdict (terms_of list s) S N
+  unfolding verdict region acid_exceedance nutrient_exceedance unlost_verdict
+  verdict_unlost S N = rw nothing.max_s
+
+  -- the answers
+  pub unlost_refused : (r : Rule) → site_rule list s ≡ Err r → Err r ≡ unlost_judgement list s
+  unfolding unlost_judgement and_then
+  unlost_refused r e = let fields = rw (Loads.unlost_check list s none) at e in rw fields
+
+  pub unlost_judged : site_rule list s ≡ Ok tt → (j : Judged) → j ≡ judged_of list s → Ok j ≡ unlost_judgement list s
+  unfolding unlost_judgement and_then judged_of
+  unlost_judged e j is =
+      let fields = rw (Loads.unlost_check list s none) at e in
+      rw (is, fields, Loads.loads_unlost list s none, verdict_unlost s.sulphur s.nitrogen)
 
 module _ (list : List ℕ) (s : Site) (none : counted_dioxide s ≡ 0) (passed : site_rule list s ≡ Ok tt) where
   -- for every pair

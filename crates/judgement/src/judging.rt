@@ -10,7 +10,7 @@ ghost use Rattle.judgement.specs.Verdicts.{verdict_of, verdict_word};
 ghost use Rattle.judgement.specs.Answers.{judged_of, judgement_answer, judgement_values, pair_values};
 ghost use Rattle.judgement.specs.Balance.{RefusedBelowZero, Says};
 ghost use Rattle.judgement.specs.declared.Verdict.TheVariants.{Within};
-ghost use Rattle.judgement.specs.WithoutBicarbonate.{ClosesUnlost};
+ghost use Rattle.judgement.specs.WithoutBicarbonate.{unlost_judgement, ClosesUnlost};
 
 use crate::position::Position;
 use crate::{Judged, Region, Verdict};
@@ -59,8 +59,9 @@ pub fn judge(site: Site, list: SpeciesList<'_>) -> Result<Judged, Rule>
     // CLmaxS below zero: 21, exactly where no pair at all closes the acid balance.
     ensures below_zero { due_rule list.entry.bytes.now site ≡ Ok tt → RefusedBelowZero list.entry.bytes.now site result }
 
-    // Without soil carbon dioxide the mark is that of the balances without bicarbonate.
-    ensures unlost { (j : Judged) → result ≡ Ok j → counted_dioxide site ≡ 0 → (j.verdict ≡ Within) ↔ ClosesUnlost (terms_of list.entry.bytes.now site) site.sulphur site.nitrogen }
+    // Without soil carbon dioxide nothing is lost, and the mark is that of the balances without bicarbonate.
+    ensures unlost { counted_dioxide site ≡ 0 → result ≡ unlost_judgement list.entry.bytes.now site }
+    ensures unlost_mark { (j : Judged) → result ≡ Ok j → counted_dioxide site ≡ 0 → (j.verdict ≡ Within) ↔ ClosesUnlost (terms_of list.entry.bytes.now site) site.sulphur site.nitrogen }
 {
     Ok(judge_passed(PassedSite::checked(site, list)?))
 }

@@ -70,6 +70,11 @@ bicarbonate_at_50 : greatest_level (terms_of [] limed) ∷ bicarbonate (terms_of
 unfolding terms_of up counted_temperature temperature_factor texture_of class_of weathering_of weathering available_weathering species_row content nitrogen_in base_in weight_of stand_sum nitrogen_uptake base_demand base_uptake_of base_uptake base_supply aluminium_limit hydrogen_of al_of greatest_where level_of hydrogen aluminium bicarbonate_of bicarbonate greatest_level counted_dioxide denitrified undenitrified leaching
 bicarbonate_at_50 = refl
 
+-- at A1's own ceiling h is 818, and 1,000,000 / 40,900, up, takes 25 from 491
+terms_with_bicarbonate : shown [] (record a1 { kind = Tag55; dioxide = 5000 }) 819 ≡ 125 ∷ 100 ∷ 155 ∷ 181 ∷ 328 ∷ 818 ∷ 329 ∷ 466 ∷ 40 ∷ 710 ∷ 205 ∷ 993 ∷ 249 ∷ []
+unfolding terms_of up counted_temperature temperature_factor texture_of class_of weathering_of weathering available_weathering species_row content nitrogen_in base_in weight_of stand_sum nitrogen_uptake base_demand base_uptake_of base_uptake base_supply aluminium_limit hydrogen_of al_of greatest_where level_of hydrogen aluminium bicarbonate_of bicarbonate net greatest_level critical_leaching counted_dioxide signed_max_s denitrified undenitrified leaching cl_max_s cl_min_n cl_max_n cl_nut_n
+terms_with_bicarbonate = refl
+
 -- CLmaxS would be −146
 below_zero : (critical_leaching (terms_of [] limed) ≡ negsuc 389) × (signed_max_s (terms_of [] limed) ≡ negsuc 145) × (load_rule (terms_of [] limed) ≡ Err LoadBelowZero)
 unfolding terms_of up counted_temperature temperature_factor texture_of class_of weathering_of weathering available_weathering species_row content nitrogen_in base_in weight_of stand_sum nitrogen_uptake base_demand base_uptake_of base_uptake base_supply aluminium_limit hydrogen_of al_of greatest_where level_of hydrogen aluminium bicarbonate_of bicarbonate net greatest_level critical_leaching counted_dioxide signed_max_s load_rule denitrified undenitrified leaching

@@ -1,5 +1,5 @@
 -- Where P is 0 nothing is lost, and rule 21 is never broken.
-use Prim.Native.Nat.{ℕ, ◌+◌}
+use Prim.Native.Nat.{ℕ}
 use mathlib.Core.Bool.{false}
 use mathlib.Core.Path.{◌≡◌, refl, ◌∙◌}
 use mathlib.Core.List.{List}
@@ -14,7 +14,7 @@ use Rattle.site.specs.Kinds.{has_dioxide, counted_dioxide}
 use Rattle.site.specs.Check.{due_rule}
 use Rattle.loads.specs.Terms.{Terms}
 use Rattle.loads.specs.SiteTerms.{terms_of}
-use Rattle.loads.specs.Hydrogen.{hydrogen, aluminium, bicarbonate, greatest_level}
+use Rattle.loads.specs.Hydrogen.{bicarbonate, greatest_level}
 use Rattle.loads.specs.MaxS.{signed_max_s, load_rule}
 use Rattle.loads.specs.Check.{site_rule}
 use Rattle.loads.specs.CriticalLoads.{cl_max_n, loads_of}
@@ -36,9 +36,9 @@ module _ (t : Terms) (e : t.P ≡ 0) where
   pub nothing_lost : NothingLost t
   nothing_lost = let p = load_passed t _ unsigned in record { none = none; passes = p.0; max_s = p.1 }
 
-  loads_unlost : loads_of t ≡ unlost_loads t
+  same_loads : loads_of t ≡ unlost_loads t
   unfolding loads_of unlost_loads cl_max_n
-  loads_unlost = rw nothing_lost.max_s
+  same_loads = rw nothing_lost.max_s
 
 then_passed : (c : Checked) → and_then c (Ok tt) ≡ c
 unfolding and_then
@@ -64,13 +64,16 @@ module _ (list : List ℕ) (s : Site) where
     unlost_check = rw unlost.passes (then_passed (due_rule list s))
 
     -- and the loads are those without bicarbonate
+    pub loads_unlost : loads_of (terms_of list s) ≡ unlost_loads (terms_of list s)
+    loads_unlost = same_loads (terms_of list s) (p_is ∙ e)
+
     pub unlost_refused : (r : Rule) → site_rule list s ≡ Err r → unlost_answer list s ≡ Err r
     unfolding unlost_answer and_then
     unlost_refused r q = rw (rw unlost_check at q)
 
     pub unlost_given : (l : Loads) → site_rule list s ≡ Ok tt → l ≡ loads_of (terms_of list s) → unlost_answer list s ≡ Ok l
     unfolding unlost_answer and_then
-    unlost_given l q is = rw (rw unlost_check at q, is, loads_unlost (terms_of list s) (p_is ∙ e))
+    unlost_given l q is = rw (rw unlost_check at q, is, loads_unlost)
 
   -- a kind without field 11 has none
   pub none_counted : has_dioxide s.kind ≡ false → counted_dioxide s ≡ 0

@@ -1,4 +1,4 @@
--- For each refusal of document 01, and for those of kinds 53 and 54, bytes that get it, with its number and offset, and bytes with two faults: the definitions say the same.
+-- For each refusal that a record can get, in every kind, bytes that get it, with its number and offset, and bytes with two faults: the definitions say the same.
 use mathlib.Core.Path.{◌≡◌, refl}
 use mathlib.Core.List.{List, [], ◌∷◌, ◌++◌, map}
 use Prim.Native.Nat.{ℕ}
@@ -30,6 +30,7 @@ use Rattle.loads.specs.Supply.{base_supply, aluminium_limit}
 use Rattle.loads.specs.Nitrogen.{denitrified, undenitrified, leaching}
 use Rattle.loads.specs.SiteTerms.{terms_of}
 use Rattle.loads.specs.MaxS.{load_rule, signed_max_s}
+use Rattle.loads.proofs.WithoutBicarbonateLaws.{unlost_check}
 use Rattle.record.proofs.ExampleRecord.{bytes_lost, bytes_a1, bytes_a1_20, one_species, bytes_a1_54, a1_54}
 
 -- the fields 01 to 06 of A1
@@ -108,9 +109,9 @@ unfolding with_load fields_at load_rule signed_max_s critical_leaching net hydro
 refusals_agree = refl
 
 -- A1 has 78 bytes, and 77 are lent
-short_buffer : output_numbers (write_rule [] a1 77) 78 ≡ (11, 0)
-unfolding output_numbers output_rule room_rule and_then site_rule due_rule fields_rule load_rule signed_max_s critical_leaching net hydrogen aluminium bicarbonate hydrogen_of al_of bicarbonate_of greatest_level level_of greatest_where up terms_of counted_temperature counted_dioxide temperature_factor texture_of class_of weathering_of weathering available_weathering species_row content nitrogen_in base_in weight_of stand_sum nitrogen_uptake base_demand base_uptake_of base_uptake base_supply aluminium_limit denitrified undenitrified leaching count_rule item_count value_rule stand_rule composition_rule entries_rule known_rule species_known between name_byte entry_ranged rising_from shares_of encode_as encode_fields field_of value entry_bytes entries_bytes
-short_buffer = refl
+short_buffer : (list : List ℕ) → output_numbers (write_rule list a1 77) 78 ≡ (11, 0)
+unfolding output_numbers output_rule room_rule and_then due_rule fields_rule counted_dioxide count_rule item_count value_rule stand_rule composition_rule entries_rule known_rule species_known between name_byte entry_ranged rising_from shares_of encode_as encode_fields field_of value entry_bytes entries_bytes
+short_buffer list = rw (unlost_check list a1 refl) refl
 
 -- a site value whose species the list lacks, ahead of a short buffer
 not_listed_first : output_numbers (write_rule [] a1_54 0) 88 ≡ (16, 0)

@@ -12,6 +12,8 @@ pub mod OuterLaws
 pub mod SiteTrips
 pub mod Place
 pub mod LostLaws
+mod SparedLaws
+pub mod FoundLaws
 pub mod OlderLaws
 pub mod PairLaws
 pub mod SiteFile

@@ -4,7 +4,7 @@ use mathlib.Core.List.{List, [], ◌++◌}
 use Prim.Native.Nat.{ℕ, ◌+◌, ◌-◌, ◌≤◌}
 use lib.ListN.{length, get_or, take, drop}
 use borrow.Author.Tests.{eqb-true, leb-true}
-use Rattle.std.specs.Prelude.{Result, Ok, Err, IfOk}
+use Rattle.std.specs.Prelude.{Result, Ok, Err}
 use Rattle.site.specs.declared.Site.{Site}
 use Rattle.site.specs.declared.Refusal.{Refusal}
 use Rattle.site.specs.Check.{due_rule}
@@ -33,7 +33,6 @@ use Rattle.numbers.specs.TwoBytes.{AllBytes}
 use Rattle.field.specs.Clean.{clean, Sized}
 use Rattle.record.specs.Writer.{encode, WritesAgain}
 use Rattle.record.proofs.EncodeLaws.{fields_same, encode_same, fields_small}
-use Rattle.record.proofs.OuterLaws.{site_past}
 use Rattle.record.proofs.RecordLaws.{AcceptedAt, accepted_at, record_after, record_inside, record_near, record_take, record_written, record_read}
 use Rattle.record.proofs.FirstFaultLaws.{record_fault_near}
 use Rattle.record.proofs.SiteTrips.{walked_kind, walked_passes, walked_clean, encode_read, read_encode}
@@ -200,19 +199,3 @@ module _ (list f : List ℕ) (at : ℕ) where
 
   pub record_err : {r : Refusal} → record_at list f at ≡ Err r → site_at list f at ≡ Err r
   record_err e = err_found (site_at list f at) e
-
-  found_again : (q : Result Found Refusal) → AllBytes f → record_at list f at ≡ q → IfOk q (λ x. WritesAgain list x.site (take (x.next - at) (drop at f)))
-  found_again (Ok x) b e = site_writes_again Tag55 list f at (record_ok e) b
-  found_again (Err r) b e = tt
-
-  -- the reader's promises follow from its answer
-  pub found_answers : (q : Result Found Refusal) → AllBytes f → record_at list f at ≡ q → record {
-    answer : q ≡ record_at list f at;
-    numbers : result_numbers q ≡ result_numbers (site_at list f at);
-    nothing_there : length f ≤ at → result_numbers q ≡ (2, at);
-    written_again : IfOk q (λ x. WritesAgain list x.site (take (x.next - at) (drop at f)));
-  }
-  unfolding result_numbers
-  found_answers q b e =
-      let numbers : result_numbers q ≡ result_numbers (site_at list f at) = ap result_numbers (sym e) ∙ found_numbers (site_at list f at) in
-      record { answer = sym e; numbers = numbers; nothing_there = λ past. numbers ∙ rw (site_past Tag55 list f at past); written_again = found_again q b e }

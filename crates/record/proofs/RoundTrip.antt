@@ -1,18 +1,19 @@
 -- Reading and writing undo each other.
 use mathlib.Core.Path.{◌≡◌, refl, sym, ap, ◌∙◌}
-use mathlib.Core.Bool.{true, false}
+use mathlib.Core.Bool.{Bool, true, false}
 use mathlib.Core.List.{List, [], append-nil}
 use Prim.Native.Nat.{ℕ, ◌+◌, ◌-◌, ◌≤◌}
 use native.Mathlib.Omega.{arith}
 use lib.Dec.{eqb}
-use lib.ListN.{length, take}
+use lib.ListN.{length, get_or, take}
 use lib.Seq.{take_all}
 use borrow.Author.Tests.{ne_eqb, eq-eqb}
-use Rattle.std.specs.Prelude.{Result, Ok, Err, IfOk}
+use Rattle.std.specs.Prelude.{Result, Ok, Err, IfOk, IfErr}
+use Rattle.site.specs.Choice.{pick}
 use Rattle.site.specs.declared.RecordKind.TheVariants.{Tag55}
 use Rattle.site.specs.declared.Site.{Site}
 use Rattle.site.specs.declared.Refusal.{Refusal}
-use Rattle.site.specs.declared.Rule.TheVariants.{NoBytes, TooMany}
+use Rattle.site.specs.declared.Rule.TheVariants.{NoBytes, TooMany, LoadBelowZero}
 use Rattle.loads.specs.Check.{site_rule}
 use Rattle.field.specs.Field.{site_kind}
 use Rattle.numbers.specs.TwoBytes.{AllBytes}
@@ -29,6 +30,7 @@ use Rattle.record.proofs.EncodeLaws.{encode_length}
 use Rattle.record.proofs.RecordLaws.{single_ok, ok_single}
 use Rattle.record.proofs.Place.{record_ok, record_err, site_fault_near, site_near, site_passes, site_clean, site_bytes, site_read}
 use Rattle.record.proofs.FirstFaultLaws.{file_fault_near}
+use Rattle.record.proofs.FoundLaws.{lost_there}
 use Rattle.record.proofs.SiteFile.{single_is}
 
 -- ---- what is written is read
@@ -96,12 +98,34 @@ unfolding result_numbers alone
 alone_numbers (Ok s) = refl
 alone_numbers (Err r) = refl
 
+-- where 21 is given there is the tag of field 11
+read_lost : (list f : List ℕ) {r : Refusal} → AllBytes f → read_record list f ≡ Err r → r.rule ≡ LoadBelowZero → get_or f r.at 0 ≡ 17
+unfolding read_record single only_one
+read_lost list f {r} b e is = by_length (eqb (length f) 0) e
+  where
+    by_end : (t : Bool) (x : Site × ℕ) → pick t (Ok x.0) (Err (record { rule = TooMany; at = x.1 })) ≡ Err r → get_or f r.at 0 ≡ 17
+    by_end true x q = cc
+    by_end false x q = let same : record { rule = TooMany; at = x.1 } ≡ r = cc in let z : TooMany ≡ LoadBelowZero = ap (λ (k : Refusal). k.rule) same ∙ is in cc
+
+    by_first : (c : Result (Site × ℕ) Refusal) → site_at list f 0 ≡ c → only_one (length f) c ≡ Err r → get_or f r.at 0 ≡ 17
+    by_first (Ok x) s q = by_end (eqb x.1 (length f)) x q
+    by_first (Err k) s q = let same : k ≡ r = cc in lost_there list f 0 b (rw same at s) is
+
+    by_length : (t : Bool) → pick t (Err (record { rule = NoBytes; at = 0 })) (only_one (length f) (site_at list f 0)) ≡ Err r → get_or f r.at 0 ≡ 17
+    by_length true q = let same : record { rule = NoBytes; at = 0 } ≡ r = cc in let z : NoBytes ≡ LoadBelowZero = ap (λ (k : Refusal). k.rule) same ∙ is in cc
+    by_length false q = by_first (site_at list f 0) refl q
+
+lost_read : (list f : List ℕ) (q : Result Site Refusal) → AllBytes f → read_record list f ≡ q → IfErr q (λ r. r.rule ≡ LoadBelowZero → get_or f r.at 0 ≡ 17)
+lost_read list f (Ok s) b e = tt
+lost_read list f (Err r) b e = read_lost list f b e
+
 pub read_answers : (list f : List ℕ) (q : Result Site Refusal) → AllBytes f → read_record list f ≡ q → record {
   answer : q ≡ read_record list f;
   numbers : result_numbers q ≡ result_numbers (contents_by 1 (site_at list f) (length f));
+  at_field_11 : IfErr q (λ r. r.rule ≡ LoadBelowZero → get_or f r.at 0 ≡ 17);
   written_again : IfOk q (λ s. WritesAgain list s f);
 }
-read_answers list f q b e = record { answer = sym e; numbers = sym (alone_numbers q) ∙ ap (λ x. result_numbers (alone x)) (sym e) ∙ ap result_numbers (sym (single_is list f)); written_again = read_again list f q b e }
+read_answers list f q b e = record { answer = sym e; at_field_11 = lost_read list f q b e; numbers = sym (alone_numbers q) ∙ ap (λ x. result_numbers (alone x)) (sym e) ∙ ap result_numbers (sym (single_is list f)); written_again = read_again list f q b e }
 
 pub read_none : (list f : List ℕ) → eqb (length f) 0 ≡ true → read_record list f ≡ Err (record { rule = NoBytes; at = 0 })
 unfolding read_record single

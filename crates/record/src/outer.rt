@@ -1,7 +1,8 @@
 // A record of a file, and the file of at most one record.
-ghost use Rattle.std.specs.Prelude.{◌≡◌, ◌-◌, ◌≤◌, get_or, length, take, drop, IfOk, MatchResult, Ok, Err};
+ghost use Rattle.std.specs.Prelude.{◌≡◌, ◌-◌, ◌≤◌, get_or, length, take, drop, IfOk, IfErr, MatchResult, Ok, Err};
 ghost use Rattle.site.specs.Kinds.{kind_by};
 ghost use Rattle.site.specs.Refusal.{and_then};
+ghost use Rattle.site.specs.declared.Rule.TheVariants.{LoadBelowZero};
 ghost use Rattle.record.specs.Outer.{known_to, fields_at, site_at, record_at, read_record};
 ghost use Rattle.record.specs.File.{contents_by};
 ghost use Rattle.record.specs.Records.{outer_rule};
@@ -68,6 +69,7 @@ pub fn read_at(file: &[u8], at: usize, list: SpeciesList<'_>) -> Result<Found, R
     ensures answer { result ≡ record_at list.entry.bytes.now file.now at }
     ensures numbers { result_numbers result ≡ result_numbers (site_at list.entry.bytes.now file.now at) }
     ensures nothing_there { length file.now ≤ at → result_numbers result ≡ (2, at) }
+    ensures at_field_11 { IfErr result (λ refusal. refusal.rule ≡ LoadBelowZero → get_or file.now refusal.at 0 ≡ 17) }
     ensures written_again { IfOk result (λ found. WritesAgain list.entry.bytes.now found.site (take (found.next - at) (drop at file.now))) }
 {
     let found = fields_at(RecordKind::Tag55, file, at, list)?;
@@ -82,6 +84,7 @@ pub fn read_at(file: &[u8], at: usize, list: SpeciesList<'_>) -> Result<Found, R
 pub fn read_record(file: &[u8], list: SpeciesList<'_>) -> Result<Site, Refusal>
     ensures answer { result ≡ read_record list.entry.bytes.now file.now }
     ensures numbers { result_numbers result ≡ result_numbers (contents_by 1 (site_at list.entry.bytes.now file.now) (length file.now)) }
+    ensures at_field_11 { IfErr result (λ refusal. refusal.rule ≡ LoadBelowZero → get_or file.now refusal.at 0 ≡ 17) }
     ensures written_again { IfOk result (λ site. WritesAgain list.entry.bytes.now site file.now) }
 {
     if file.is_empty() {

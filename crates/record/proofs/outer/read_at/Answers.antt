@@ -1,7 +1,7 @@
 use Rattle.std.proofs.Common.{arith}
 use Rattle.std.proofs.lemmas.Result.{err_from_is_err_and}
 use Rattle.record.proofs.OuterLaws.{record_refused, record_lost, record_whole}
-use Rattle.record.proofs.Place.{found_answers}
+use Rattle.record.proofs.FoundLaws.{found_answers}
 use Rattle.record.proofs.outer.read_at.Goals as goal
 
 pub returns-in_err-found : goal.returns-in_err-found
