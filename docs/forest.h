@@ -135,9 +135,10 @@ uint64_t forest_rewrite(const uint8_t *record, size_t record_len, const uint8_t 
  * temperature can keep it back. One of the target's kind stays as it is. A record keeps its loads and its mark, and a file of
  * one kind, moved and then moved back, its bytes.
  * Kind 55 is neither moved nor a target. Refused are, in this order: a target other than the three (3, at 0); the list (15);
- * the file, as by forest_list (1 to 10 and 16), but that an outer tag of 55 is refused by 3 at its field, whatever follows; the
- * first field from the left that cannot go down, 07 ahead of 10 in a record (17); a buffer shorter than the moved file (11). A
- * moved record has at most 104 bytes: a buffer of FOREST_MOST_CONVERTED bytes is always long enough. Stack: 66 KiB. */
+ * the file, as by forest_list (1 to 10 and 16), but that an outer tag of 55 is refused by 3 at its field, after 2 for under 3
+ * bytes and ahead of 2 for its length; the first field from the left that cannot go down, 07 ahead of 10 in a record (17); a
+ * buffer shorter than the moved file (11). A moved record has at most 104 bytes: a buffer of FOREST_MOST_CONVERTED bytes is
+ * always long enough. Stack: 66 KiB. */
 uint64_t forest_convert(const uint8_t *file, size_t file_len, const uint8_t *list, size_t list_len, uint8_t target,
                         uint8_t *out, size_t out_len);
 
