@@ -1,6 +1,7 @@
-//! Times the listing of full files, and the conversion of one, by the static library and by the independent implementation.
+//! Times the listing of full files, the conversion of one, and the rewriting of its records, by the static library and by the
+//! independent implementation.
 
-use compare::interface::{CONVERT, LIST};
+use compare::interface::{CONVERT, LIST, REWRITE};
 use compare::random::Random;
 use compare::{files, lists, sites};
 use forest::{terms, Kind, Site};
@@ -30,9 +31,21 @@ fn main() {
         &list,
     );
     println!();
+    let file = full_file(&mut random, Kind::Tag53, &[], any).0;
     time_conversion(
         "kind 53 with four entries, to kind 54 and back, an empty list",
-        &full_file(&mut random, Kind::Tag53, &[], any).0,
+        &file,
+    );
+    println!();
+    time_rewriting(
+        "kind 53 with four entries, each rewritten, an empty list",
+        &file,
+    );
+    println!();
+    time_listing(
+        "kind 55 with four entries of a list, the list of 768 entries",
+        &full_file(&mut random, Kind::Tag55, &list, listed),
+        &list,
     );
 }
 
@@ -81,6 +94,29 @@ fn there_and_back(
 ) -> u64 {
     let length = convert([file, &[], &[Kind::Tag54 as u8]], wide) as usize;
     convert([&wide[..length], &[], &[Kind::Tag53 as u8]], narrow)
+}
+
+/// Prints the times of both, for the records of a file, read and written again one by one.
+fn time_rewriting(records: &str, file: &[u8]) {
+    let [library, reference] = black_box([REWRITE.library, REWRITE.reference]);
+    let [mut ours, mut theirs] = [(); 2].map(|()| vec![0; 300]);
+    let each = |rewrite: fn([&[u8]; 2], &mut [u8]) -> u64, room: &mut [u8]| {
+        let (mut at, mut same) = (0, 0);
+        while at < file.len() {
+            let end = at + 3 + usize::from(u16::from_be_bytes([file[at + 1], file[at + 2]]));
+            let record = black_box(&file[at..end]);
+            let length = rewrite([record, &[]], room) as usize;
+            same += u64::from(length == record.len() && room[..length] == *record);
+            at = end;
+        }
+        assert_eq!(same, RECORDS as u64, "another record comes back");
+        same
+    };
+    println!("{RECORDS} records of {records}, {} bytes", file.len());
+    time(
+        || each(library, &mut theirs),
+        || each(reference, &mut ours),
+    );
 }
 
 /// Prints the times of two calls that are made in turn, and their ratio.
