@@ -22,16 +22,16 @@ agrees : map (λ (c : LevelCase). computed c.ceiling) cases ≡ cases
 unfolding cases terms_of up counted_temperature temperature_factor texture_of class_of weathering_of weathering available_weathering species_row content base_in weight_of stand_sum base_demand base_uptake_of base_uptake aluminium_limit al_of greatest_where level_of greatest_level means_in means compared_of levels_compared
 agrees = refl
 
-fields_pass : map (λ (c : LevelCase). due_rule [] (a1_with c.ceiling)) cases ≡ (Ok tt) ∷ (Ok tt) ∷ (Ok tt) ∷ (Ok tt) ∷ []
-unfolding cases due_rule fields_rule and_then count_rule item_count value_rule name_byte between composition_rule entries_rule species_known known_rule stand_rule entry_ranged rising_from shares_of
-fields_pass = refl
-
--- none of them has carbon dioxide
-passes : (h : ℕ) → due_rule [] (a1_with h) ≡ Ok tt → site_rule [] (a1_with h) ≡ Ok tt
+-- none of them has carbon dioxide, so the whole check is that of the fields
+checked : (h : ℕ) → due_rule [] (a1_with h) ≡ Ok tt → site_rule [] (a1_with h) ≡ Ok tt
 unfolding counted_dioxide
-passes h e = unlost_check [] (a1_with h) refl ∙ e
+checked h e = unlost_check [] (a1_with h) refl ∙ e
+
+passes : map (λ (c : LevelCase). site_rule [] (a1_with c.ceiling)) cases ≡ (Ok tt) ∷ (Ok tt) ∷ (Ok tt) ∷ (Ok tt) ∷ []
+unfolding cases due_rule fields_rule and_then count_rule item_count value_rule name_byte between composition_rule entries_rule species_known known_rule stand_rule entry_ranged rising_from shares_of
+passes = rw (checked 1000 refl, checked 818 refl, checked 819 refl, checked 5000 refl)
 
 -- so some site takes 14
 fourteen : (site_rule [] (a1_with 5000) ≡ Ok tt) × (length (levels_compared (terms_of [] (a1_with 5000))) ≡ 14)
 unfolding due_rule fields_rule and_then count_rule item_count value_rule name_byte between composition_rule entries_rule species_known known_rule stand_rule entry_ranged rising_from shares_of terms_of up counted_temperature temperature_factor texture_of class_of weathering_of weathering available_weathering species_row content base_in weight_of stand_sum base_demand base_uptake_of base_uptake aluminium_limit al_of greatest_where level_of greatest_level means_in means compared_of levels_compared
-fourteen = (passes 5000 refl, refl)
+fourteen = (checked 5000 refl, refl)

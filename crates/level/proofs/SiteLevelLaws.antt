@@ -1,10 +1,10 @@
 -- The search at a site: a site that passes the check passes that of the search; what an answer says of its site; all that the call promises.
 use Prim.Native.Nat.{ℕ}
 use mathlib.Core.List.{List}
-use mathlib.Core.Path.{◌≡◌, refl}
+use mathlib.Core.Path.{◌≡◌, refl, sym, ◌∙◌, ap}
 use native.Mathlib.Omega.{arith}
 use lib.ListN.{length}
-use Rattle.std.specs.Prelude.{Ok, Err}
+use Rattle.std.specs.Prelude.{Result, Ok, Err}
 use Rattle.loads.specs.Check.{site_rule}
 use Rattle.site.specs.Refusal.{and_then, values_if}
 use Rattle.site.specs.Values.{value_rule}
@@ -63,3 +63,11 @@ module _ (list : List ℕ) (s : Site) where
   pub few_found : (f : Searched) → site_level list s ≡ Ok f → FewAt (terms_of list s) f.compared
   unfolding searched_at searched_of levels_compared
   few_found f e = let g = level_given f e in rw g.1 (few_at g.0)
+
+  -- all that the call promises, from its equation
+  pub level_promise :
+      (r : Result Searched Rule) → r ≡ site_level list s
+      → (r ≡ site_level list s)
+      × ((level_values r ≡ values_if (site_rule list s) (level_numbers (terms_of list s)))
+      × ((f : Searched) → r ≡ Ok f → FewAt (terms_of list s) f.compared))
+  level_promise r is = (is, (ap level_values is ∙ site_level_values, λ f e. few_found f (sym is ∙ e)))

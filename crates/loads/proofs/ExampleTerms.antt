@@ -1,6 +1,10 @@
--- The values that document 01 gives for site A1; those of the same site with root depth 51 at 20 °C, with a stand of which one species stands in a list, and as
--- a reserve.
-use Rattle.std.specs.Prelude.{ℕ, ◌≡◌, refl, List, [], ◌∷◌, negsuc, Err}
+-- Site A1 of document 01 passes the whole check, whatever the list; the values that document 01 gives for it; those of the same site with root depth 51 at
+-- 20 °C, with a stand of which one species stands in a list, and as a reserve.
+use Rattle.std.proofs.Common.{◌∙◌}
+use Rattle.std.specs.Prelude.{ℕ, ◌≡◌, refl, List, [], ◌∷◌, negsuc, Ok, Err}
+use Rattle.site.specs.Check.{fields_rule, due_rule}
+use Rattle.site.specs.Refusal.{and_then}
+use Rattle.site.specs.Values.{count_rule, item_count, value_rule, name_byte, between, composition_rule, entries_rule, species_known, known_rule, stand_rule, entry_ranged, rising_from, shares_of}
 use Rattle.site.specs.ExampleSite.{a1, a1_reserve}
 use Rattle.site.specs.declared.Site.{Site}
 use Rattle.site.specs.Bounds.{no_entry}
@@ -19,6 +23,12 @@ use Rattle.loads.specs.Nitrogen.{denitrified, undenitrified, leaching}
 use Rattle.loads.specs.SiteTerms.{terms_of}
 use Rattle.loads.specs.MaxS.{not_negative, signed_max_s, load_rule, cl_max_s}
 use Rattle.loads.specs.CriticalLoads.{cl_min_n, cl_max_n, cl_nut_n}
+use Rattle.loads.specs.Check.{site_rule}
+use Rattle.loads.proofs.WithoutBicarbonateLaws.{unlost_check}
+
+a1_passes : (list : List ℕ) → site_rule list a1 ≡ Ok tt
+unfolding counted_dioxide due_rule fields_rule and_then item_count count_rule name_byte between entry_ranged rising_from shares_of composition_rule entries_rule species_known known_rule stand_rule value_rule
+a1_passes list = unlost_check list a1 refl ∙ refl
 
 -- W, w, Nu, Bu, A, h, al of a level above it, M, L, and the four loads
 abbrev shown : List ℕ → Site → (above : ℕ) → List ℕ

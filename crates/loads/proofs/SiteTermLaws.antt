@@ -76,6 +76,8 @@ module _ (list : List ℕ) (s : Site) where
 
 -- the parts behind the base supply and the aluminium limit
 pub record PartBounds (list : List ℕ) (s : Site) : Type 0 where
+  pub weathering_le : weathering s ≤ most_weathering
+  pub available_part : available_weathering s ≤ weathering s
   pub available_le : available_weathering s ≤ most_available
   -- B + w − Bu and B + W − Bu are not cut off
   pub uptake_part : base_uptake list s ≤ s.base_deposition + available_weathering s
@@ -98,6 +100,8 @@ module _ (list : List ℕ) (s : Site) (b : Bounds s) where
   part_bounds =
       let p : weathering s * s.available ≤ most_weathering * available_range.most = mul-le-mul weathered b.available in
       record {
+        weathering_le = weathered;
+        available_part = available_within;
         available_le = omega (arith, available_is list s);
         uptake_part = omega (arith, uptake_min list s);
         supply_part = omega (arith, uptake_min list s, available_within);

@@ -1,5 +1,6 @@
 // What a stand takes up.
-ghost use Rattle.std.specs.Prelude.{◌≡◌, [], ◌≤◌, get_or, length, sum_by};
+ghost use Rattle.std.specs.Prelude.{◌≡◌, [], ◌*◌, ◌≤◌, get_or, length, sum_by};
+ghost use Rattle.site.specs.Ranges.{most_entries};
 ghost use Rattle.site.specs.Bounds.{EntryBounds, StandBounds};
 ghost use Rattle.loads.specs.MostTerms.{most_nitrogen_weight, most_base_weight};
 ghost use Rattle.loads.specs.Uptake.{species_table, species_row, nitrogen_in, base_in, weight_of, base_uptake_of};
@@ -67,6 +68,8 @@ pub fn stand_sums(entries: &[Entry], list: SpeciesList<'_>) -> Sums
     requires { StandBounds entries.now (length entries.now) }
     ensures nitrogen { result.nitrogen ≡ sum_by (weight_of (nitrogen_in list.entry.bytes.now)) entries.now }
     ensures base { result.base ≡ sum_by (weight_of (base_in list.entry.bytes.now)) entries.now }
+    ensures nitrogen_le { result.nitrogen ≤ most_entries * most_nitrogen_weight }
+    ensures base_le { result.base ≤ most_entries * most_base_weight }
 {
     let mut nitrogen = 0;
     let mut base = 0;
