@@ -31,20 +31,23 @@ unfolding denitrified
 denitrified-le parent drainage = pick-le (eqb parent 0) (omega arith) (drainage_part_le drainage)
 
 module _ (s : Site) where
-  pub undenitrified_is : undenitrified s ≡ 1000 - denitrified s.parent s.drainage
+  pub undenitrified_by : undenitrified s ≡ 1000 - denitrified s.parent s.drainage
   unfolding undenitrified
-  undenitrified_is = refl
+  undenitrified_by = refl
 
   pub undenitrified_least : least_e ≤ undenitrified s
-  undenitrified_least = omega (arith, undenitrified_is, denitrified-le s.parent s.drainage)
+  undenitrified_least = omega (arith, undenitrified_by, denitrified-le s.parent s.drainage)
 
   pub undenitrified-pos : 1 ≤ undenitrified s
   undenitrified-pos = omega (arith, undenitrified_least)
 
   pub undenitrified_most : undenitrified s ≤ 1000
-  undenitrified_most = omega (arith, undenitrified_is)
+  undenitrified_most = omega (arith, undenitrified_by)
 
 -- e is that of the site, whatever the list
 pub e_is : (list : List ℕ) (s : Site) → (terms_of list s).e ≡ undenitrified s
 unfolding terms_of
 e_is list s = refl
+
+pub undenitrified_is : (list : List ℕ) (s : Site) → (terms_of list s).e ≡ 1000 - denitrified s.parent s.drainage
+undenitrified_is list s = rw (e_is list s) (undenitrified_by s)

@@ -25,7 +25,7 @@ fn denitrified_of(parent: u8, drainage: u8) -> u64
 }
 
 // e at a site
-#[tactic(auto, using(crate::proofs::DenitrifiedLaws::undenitrified_is))]
+#[tactic(auto, using(crate::proofs::DenitrifiedLaws::undenitrified_by))]
 pub fn undenitrified_at(s: Site) -> u64
     ensures { result ≡ undenitrified s }
 {
