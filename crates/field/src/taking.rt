@@ -12,6 +12,7 @@ use site::{
 
 // The value of a field of a permitted length, put into the site.
 #[tactic(auto, using(site::proofs::LengthLaws::permitted_parts, site::proofs::LengthLaws::permitted_tag, site::proofs::MatchLaws::none_left), unfolding(crate::specs::Field::store))]
+#[inline(always)]
 fn store(site: &mut Site, tag: u8, value: &[u8])
     requires { length_permitted site.old.kind tag (length value.now) ≡ true }
     ensures { site.new ≡ store site.old.kind tag value.now site.old }
@@ -59,6 +60,7 @@ fn store(site: &mut Site, tag: u8, value: &[u8])
 
 // Rules 7 to 10 and 16 of a field. Its value stands in the site where its length is permitted, also if a later rule refuses it.
 #[tactic(auto, using(crate::proofs::TakenLaws::field_numbered, crate::proofs::TakenLaws::store_kind), unfolding(crate::specs::Field::taken, crate::specs::Kind::field_rule))]
+#[inline(always)]
 pub fn take_field(site: &mut Site, tag: u8, value: &[u8], list: SpeciesList<'_>) -> Result<(), Rule>
     ensures answer { result ≡ field_rule (site_kind list.entry.bytes.now site.old.kind) tag value.now site.old }
     ensures stored { site.new ≡ taken site.old.kind tag value.now site.old }

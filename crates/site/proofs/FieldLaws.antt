@@ -1,5 +1,5 @@
 -- Laws of the check by tags.
-use mathlib.Core.Path.{◌≡◌, refl, ap}
+use mathlib.Core.Path.{◌≡◌, refl, ap, ◌∙◌}
 use mathlib.Core.Logic.{⊎_elim}
 use Prim.Native.Nat.{ℕ, zero, suc, ◌+◌, ◌-◌, ◌≤◌, ◌<◌}
 use native.Mathlib.Omega.{arith}
@@ -7,12 +7,12 @@ use lib.ListN.{length, get_or-eq_default}
 use mathlib.Core.List.{List}
 use Rattle.site.specs.declared.Site.{Site}
 use Rattle.site.specs.declared.RecordKind.{RecordKind}
-use Rattle.site.specs.Refusal.{and_then}
+use Rattle.site.specs.Refusal.{Checked, and_then}
 use Rattle.std.specs.Prelude.{Ok}
 use Rattle.site.specs.Kinds.{due}
 use Rattle.site.specs.Values.{count_rule, value_rule}
 use Rattle.site.proofs.Tags.{tags_from, tags_more, tags_none, due_tags, first_fifteen}
-use Rattle.site.specs.Check.{fields_rule, due_rule}
+use Rattle.site.specs.Check.{fields_rule, due_rule, rest_rule}
 use Rattle.site.proofs.Tests.{le_or_lt}
 use Rattle.site.proofs.Passing.{both_passed}
 
@@ -53,6 +53,23 @@ pub fields_next : (list : List ℕ) (k : RecordKind) (last t : ℕ) (s : Site) �
     → fields_rule list k (tags_from last t) s ≡ and_then (and_then (count_rule t s) (value_rule list k t s)) (fields_rule list k (tags_from last (t + 1)) s)
 unfolding fields_rule
 fields_next list k last t s h = rw (tags_more last t h)
+
+-- five fields from the tag t on, then those after them
+pub five_next : (list : List ℕ) (t : ℕ) (s : Site) → t + 4 ≤ length (due s.kind)
+    → let f : ℕ → Checked = λ u. and_then (count_rule u s) (value_rule list s.kind u s) in
+      rest_rule list t s ≡ and_then (f t) (and_then (f (t + 1)) (and_then (f (t + 2)) (and_then (f (t + 3)) (and_then (f (t + 4)) (rest_rule list (t + 5) s)))))
+five_next list t s h =
+    step t (t + 1) refl (omega arith)
+    ∙ ap (and_then (f t)) (step (t + 1) (t + 2) (omega arith) (omega arith)
+    ∙ ap (and_then (f (t + 1))) (step (t + 2) (t + 3) (omega arith) (omega arith)
+    ∙ ap (and_then (f (t + 2))) (step (t + 3) (t + 4) (omega arith) (omega arith)
+    ∙ ap (and_then (f (t + 3))) (step (t + 4) (t + 5) (omega arith) (omega arith)))))
+  where
+    f : ℕ → Checked
+    f u = and_then (count_rule u s) (value_rule list s.kind u s)
+
+    step : (u v : ℕ) → v ≡ u + 1 → u ≤ length (due s.kind) → rest_rule list u s ≡ and_then (f u) (rest_rule list v s)
+    step u v e inside = rw e (fields_next list s.kind (length (due s.kind)) u s inside)
 
 -- all the fields
 pub fields_all : (list : List ℕ) (s : Site) → due_rule list s ≡ fields_rule list s.kind (tags_from (length (due s.kind)) 1) s

@@ -29,6 +29,7 @@ impl Items {
 
 // A match and no constant array, which would be set up anew at each call.
 #[tactic(auto, using(crate::proofs::MatchLaws::none_below, crate::proofs::LengthLaws::no_items_lem))]
+#[inline(always)]
 fn items_of(kind: RecordKind, tag: u8) -> Items
     ensures { result ≡ items_of kind tag }
 {
@@ -57,6 +58,7 @@ fn items_of(kind: RecordKind, tag: u8) -> Items
 }
 
 #[tactic(auto, using(crate::proofs::LengthLaws::width_positive, crate::proofs::LengthLaws::longest, crate::proofs::LengthLaws::permitted_fewer, crate::proofs::LengthLaws::permitted_more, crate::proofs::LengthLaws::permitted_items))]
+#[inline(always)]
 pub fn length_permitted(kind: RecordKind, tag: u8, n: usize) -> bool
     ensures { result ≡ length_permitted kind tag n }
 {
@@ -69,6 +71,7 @@ pub fn length_permitted(kind: RecordKind, tag: u8, n: usize) -> bool
 }
 
 #[tactic(auto, unfolding(crate::specs::Values::item_count))]
+#[inline(always)]
 fn item_count(site: &Site, tag: u8) -> usize
     ensures { result ≡ item_count tag site.now }
 {
@@ -80,6 +83,7 @@ fn item_count(site: &Site, tag: u8) -> usize
 }
 
 #[tactic(auto, unfolding(crate::specs::Values::count_rule))]
+#[inline(always)]
 pub fn count_rule(site: &Site, tag: u8) -> Result<(), Rule>
     ensures { result ≡ count_rule tag site.now }
 {

@@ -9,6 +9,7 @@ use crate::ranges::{
 use crate::{Rule, Site, SpeciesList};
 
 #[tactic(auto, using(crate::proofs::MatchLaws::none_below, crate::proofs::FieldLaws::value_none), unfolding(crate::specs::Values::value_rule))]
+#[inline(always)]
 pub fn value_rule(site: &Site, tag: u8, list: SpeciesList<'_>) -> Result<(), Rule>
     ensures { result ≡ value_rule list.entry.bytes.now site.now.kind tag site.now }
 {

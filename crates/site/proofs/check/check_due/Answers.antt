@@ -1,10 +1,7 @@
 use Rattle.std.proofs.Common.{◌∙◌, sym, arith, rules}
-use Rattle.site.proofs.FieldLaws.{fields_all, fields_passed, fields_done}
+use Rattle.site.proofs.FieldLaws.{fields_passed, fields_done}
 use Rattle.site.proofs.NumberLaws.{numbered, known_site}
 use Rattle.site.proofs.check.check_due.Goals as goal
-
-pub loop-tag-init : goal.loop-tag-init
-loop-tag-init c = fields_all c.args.list.bytes.now c.args.site
 
 pub loop-tag-preserved : goal.loop-tag-preserved
 loop-tag-preserved c = c.loop-tag.invariant ∙ fields_passed _ _ _ c.loop-tag.tag c.args.site (omega arith) (search rules)
