@@ -3,6 +3,7 @@ pub mod FieldBytes
 pub mod ResultLaws
 pub mod LoadRuleLaws
 pub mod WalkLaws
+pub mod ReadingLaws
 pub mod Trips
 pub mod RecordLaws
 pub mod FileLaws

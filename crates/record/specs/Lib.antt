@@ -1,6 +1,7 @@
 pub mod Result
 pub mod FieldParts
 pub mod Fields
+pub mod Reading
 pub mod Records
 pub mod Outer
 pub mod File

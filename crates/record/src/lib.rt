@@ -6,6 +6,7 @@ mod found;
 mod inner;
 mod outer;
 mod put;
+mod reading;
 mod records;
 mod value;
 mod writer;

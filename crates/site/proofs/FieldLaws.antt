@@ -57,7 +57,7 @@ fields_next list k last t s h = rw (tags_more last t h)
 -- five fields from the tag t on, then those after them
 pub five_next : (list : List ℕ) (t : ℕ) (s : Site) → t + 4 ≤ length (due s.kind)
     → let f : ℕ → Checked = λ u. and_then (count_rule u s) (value_rule list s.kind u s) in
-      rest_rule list t s ≡ and_then (f t) (and_then (f (t + 1)) (and_then (f (t + 2)) (and_then (f (t + 3)) (and_then (f (t + 4)) (rest_rule list (t + 5) s)))))
+    rest_rule list t s ≡ and_then (f t) (and_then (f (t + 1)) (and_then (f (t + 2)) (and_then (f (t + 3)) (and_then (f (t + 4)) (rest_rule list (t + 5) s)))))
 five_next list t s h =
     step t (t + 1) refl (omega arith)
     ∙ ap (and_then (f t)) (step (t + 1) (t + 2) (omega arith) (omega arith)
