@@ -162,7 +162,7 @@ uint64_t forest_judge(const uint8_t *site, size_t site_len, const uint8_t *list,
  * forest_judge for the site with this pair. Each reading counts in whole micrograms per litre, up, a value below the limit
  * as the limit. S is the sum of mm times micrograms, divided by 1600, up; N that of both forms of nitrogen, divided by 1400,
  * up. List and site are checked first, then the length of the months, then each month in order: rain (8), sulphate, nitrate,
- * ammonium (12 or 13, also in a month without rain). Stack: 3 KiB. */
+ * ammonium (12 or 13, also in a month without rain). Stack: 2 KiB. */
 uint64_t forest_sample(const uint8_t *site, size_t site_len, const uint8_t *list, size_t list_len, const uint8_t *months,
                        size_t months_len, uint64_t *out, size_t out_len);
 
